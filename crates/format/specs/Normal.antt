@@ -1,0 +1,60 @@
+-- The normal form of a recipe.
+use Prim.Native.Nat.{ℕ, suc, _+_, _/_, _%_}
+use mathlib.Core.List.{List, [], _∷_, _++_}
+use lib.ListN.{take, drop}
+use lib.Dec.{eqb}
+use Rattle.format.specs.Bytes.{pick, ofGiven, part}
+use Rattle.format.specs.Layout.{lay}
+use Rattle.format.specs.Table.{code, Head}
+use Rattle.format.specs.Form.{Form, processor, cache, memory, acpi, pci, rintc, domain, matrix, side}
+use Rattle.format.specs.Node.{Node}
+use Rattle.format.specs.Kind.{Kind, Processor, Resource, Cache, Memory, Acpi, Pci, Rintc, Domain, Matrix, Initiator, Target, Cell, Side, Handle, kindNumber, body}
+use Rattle.format.specs.Recipe.{Meaning, meaning}
+
+-- the bytes of one record
+abbrev pub call : Kind → List ℕ → List ℕ
+call k vs = kindNumber k ∷ lay (body k) vs
+
+-- a record for each number
+unfoldable pub each : Kind → List ℕ → List ℕ
+each k [] = []
+each k (v ∷ vs) = call k (v ∷ []) ++ each k vs
+
+-- a setting for each number that isn't the unset one, indices from j on
+unfoldable pub eachSet : (ℕ → ℕ → List ℕ) → ℕ → ℕ → List ℕ → List ℕ
+eachSet setting unset j [] = []
+eachSet setting unset j (v ∷ vs) = pick (eqb v unset) [] (setting j v) ++ eachSet setting unset (suc j) vs
+
+-- initiators, targets, then cells row by row
+unfoldable pub settings : ℕ → ℕ → List ℕ → List ℕ
+settings i t vs =
+    eachSet (λ j v. call Initiator (j ∷ v ∷ [])) 0 0 (part vs 0 i)
+    ++ (eachSet (λ j v. call Target (j ∷ v ∷ [])) 0 0 (part vs i t)
+    ++ eachSet (λ e v. call Cell (e / t ∷ e % t ∷ v ∷ [])) 65535 0 (drop (i + t) vs))
+
+-- the records of one node
+unfoldable pub calls : Form → List ℕ → List ℕ
+calls (processor n) vs = call Processor (take 3 vs) ++ each Resource (drop 3 vs)
+calls cache vs = call Cache vs
+calls memory vs = call Memory vs
+calls acpi vs = call Acpi vs
+calls pci vs = call Pci vs
+calls rintc vs = call Rintc vs
+calls domain vs = call Domain vs
+calls (matrix i t) vs = call Matrix (take 4 vs ++ (i ∷ t ∷ [])) ++ settings i t (drop 4 vs)
+calls (side n) vs = call Side (take 3 vs) ++ each Handle (drop 3 vs)
+
+unfoldable pub callsOf : List Node → List ℕ
+callsOf [] = []
+callsOf (n ∷ ns) = callsOf ns ++ calls (n .form) (n .values)
+
+-- the head's record
+abbrev pub headCall : Head → List ℕ
+headCall h = 1 ∷ code (h .table) ∷ h .identity
+
+unfoldable pub recipeOf : Meaning → List ℕ
+recipeOf m = headCall (m .head) ++ callsOf (m .nodes)
+
+-- the normal form of a recipe that builds
+unfoldable pub normal : List ℕ → List ℕ
+normal r = ofGiven recipeOf (meaning r)

@@ -1,0 +1,175 @@
+-- The recipe: what its records mean, one after the other, and what is refused.
+use Prim.Native.Nat.{ℕ, zero, suc, _+_, _*_}
+use mathlib.Core.List.{List, [], _∷_, _++_}
+use mathlib.Core.Bool.{Bool, true, false, not}
+use mathlib.Core.Option.{Option, none, some}
+use lib.ListN.{length, take, drop, replicate, set}
+use lib.Dec.{eqb, leb, ltb}
+use Rattle.format.specs.Bytes.{pick, all, firstOf, find, Answer, refused, given, andThen, orRefused, unless, at, part}
+use Rattle.format.specs.Layout.{width, fields, refsGood}
+use Rattle.format.specs.Table.{Table, tables, code, front, limit, Head, headOf}
+use Rattle.format.specs.Form.{Form, processor, cache, memory, acpi, pci, rintc, domain, matrix, side, any, ranges}
+use Rattle.format.specs.Node.{Node, node, sizes, starts, atOrdinal}
+use Rattle.format.specs.Kind.{Kind, Processor, Resource, Cache, Memory, Acpi, Pci, Rintc, Domain, Matrix, Initiator, Target, Cell, Side, Handle, kindOf, body}
+
+-- ---- cutting
+
+-- the records of a recipe, each with its place
+pub data Calls : Type 0 where
+  done : Calls
+  badKind : ℕ → Calls  -- the kind is unknown, of another table, or a head's
+  cutOff : ℕ → Kind → Calls  -- the body ends past the recipe
+  called : ℕ → Kind → List ℕ → Calls → Calls  -- kind, fields, and the records behind
+
+-- bs: what follows the kind byte, which stands at p; rest: the records behind this one
+unfoldable pub cutAs : Option Kind → List ℕ → ℕ → Calls → Calls
+cutAs none bs p rest = badKind p
+cutAs (some k) bs p rest = pick (ltb (length bs) (width (body k))) (cutOff p k) (called p k (fields (body k) bs) rest)
+
+-- how many bytes follow a kind byte
+abbrev pub skip : Option Kind → ℕ
+skip none = 0
+skip (some k) = width (body k)
+
+-- n: how many bytes still belong to the record before; p: the place
+unfoldable pub cut : Table → ℕ → ℕ → List ℕ → Calls
+cut t n p [] = done
+cut t (suc n) p (b ∷ bs) = cut t n (suc p) bs
+cut t zero p (b ∷ bs) = cutAs (kindOf t b) bs p (cut t (skip (kindOf t b)) (suc p) bs)
+
+-- ---- one record more; the nodes are listed newest first
+
+-- what a record asks for, and what it does
+pub record Step : Type 0 where
+  pub placed : Bool  -- it stands where it may: else 4
+  pub ranges : List Bool  -- its fields' tests, in order: else 5
+  pub earlier : List Node  -- its references name one of these: else 6
+  pub full : Bool  -- its node's list has no room: 7
+  pub nodes : List Node  -- the nodes with it
+
+-- a record that makes a node
+abbrev pub makes : List Bool → Node → List Node → Step
+makes rs n ns = record { placed = true; ranges = rs; earlier = ns; full = false; nodes = n ∷ ns }
+
+-- a record that makes n of the node in front of ns
+abbrev pub changes : List Bool → Bool → Node → List Node → Step
+changes rs full n ns = record { placed = true; ranges = rs; earlier = ns; full = full; nodes = n ∷ ns }
+
+-- a record that has no node to join
+abbrev pub stray : Step
+stray = record { placed = false; ranges = []; earlier = []; full = false; nodes = [] }
+
+-- the newest node, if a record can join it: its counts, its fields, and the nodes before it
+pub data Newest : Type 0 where
+  aProcessor : ℕ → List ℕ → List Node → Newest
+  aMatrix : ℕ → ℕ → List ℕ → List Node → Newest
+  aSide : ℕ → List ℕ → List Node → Newest
+  other : Newest
+
+abbrev pub newestAs : Form → List ℕ → List Node → Newest
+newestAs (processor n) us ns = aProcessor n us ns
+newestAs cache us ns = other
+newestAs memory us ns = other
+newestAs acpi us ns = other
+newestAs pci us ns = other
+newestAs rintc us ns = other
+newestAs domain us ns = other
+newestAs (matrix i t) us ns = aMatrix i t us ns
+newestAs (side n) us ns = aSide n us ns
+
+abbrev pub newest : List Node → Newest
+newest [] = other
+newest (n ∷ ns) = newestAs (n .form) (n .values) ns
+
+-- a processor takes 58 resources
+unfoldable pub resource : List ℕ → Newest → Step
+resource vs (aProcessor n us ns) = changes [] (leb 58 n) (node (processor (suc n)) (us ++ vs)) ns
+resource vs (aMatrix i t us ns) = stray
+resource vs (aSide n us ns) = stray
+resource vs other = stray
+
+-- a side cache takes 65,535 handles
+unfoldable pub handle : List ℕ → Newest → Step
+handle vs (aProcessor n us ns) = stray
+handle vs (aMatrix i t us ns) = stray
+handle vs (aSide n us ns) = changes [] (leb 65535 n) (node (side (suc n)) (us ++ vs)) ns
+handle vs other = stray
+
+-- of an I by T matrix: tests of the indices, the field to set, and its number
+unfoldable pub setting : (ℕ → ℕ → List Bool) → (ℕ → ℕ → ℕ) → ℕ → Newest → Step
+setting tests field v (aProcessor n us ns) = stray
+setting tests field v (aMatrix i t us ns) = changes (tests i t) false (node (matrix i t) (set us (field i t) v)) ns
+setting tests field v (aSide n us ns) = stray
+setting tests field v other = stray
+
+-- a matrix has 4 fields, then I values, T values, and I times T cells
+unfoldable pub unset : ℕ → ℕ → List ℕ → List ℕ
+unset i t vs = take 4 vs ++ (replicate (i + t) 0 ++ replicate (i * t) 65535)
+
+-- what a record of each kind does; vs: its fields
+unfoldable pub step : Kind → List ℕ → List Node → Step
+step Processor vs ns = makes [] (node (processor 0) vs) ns
+step Resource vs ns = resource vs (newest ns)
+step Cache vs ns = makes (ranges cache vs) (node cache vs) ns
+step Memory vs ns = makes (ranges memory vs) (node memory vs) ns
+step Acpi vs ns = makes (ranges acpi vs) (node acpi vs) ns
+step Pci vs ns = makes (ranges pci vs) (node pci vs) ns
+step Rintc vs ns = makes (ranges rintc vs) (node rintc vs) ns
+step Domain vs ns = makes [] (node domain vs) ns
+step Matrix vs ns =
+    let i : ℕ = at vs 4 in
+    let t : ℕ = at vs 5 in
+    makes (ranges (matrix i t) vs) (node (matrix i t) (unset i t vs)) ns
+step Initiator vs ns = setting (λ i t. ltb (at vs 0) i ∷ []) (λ i t. 4 + at vs 0) (at vs 1) (newest ns)
+step Target vs ns = setting (λ i t. ltb (at vs 0) t ∷ []) (λ i t. 4 + i + at vs 0) (at vs 1) (newest ns)
+step Cell vs ns = setting (λ i t. ltb (at vs 0) i ∷ ltb (at vs 1) t ∷ []) (λ i t. 4 + i + t + at vs 0 * t + at vs 1) (at vs 2) (newest ns)
+step Side vs ns = makes (ranges (side 0) vs) (node (side 0) vs) ns
+step Handle vs ns = handle vs (newest ns)
+
+-- the nodes with one record more
+abbrev pub added : Kind → List ℕ → List Node → List Node
+added k vs ns = step k vs ns .nodes
+
+-- what is refused of a record, in the order of the list
+unfoldable pub fault : Table → List Node → Kind → List ℕ → ℕ
+fault t ns k vs =
+    let s : Step = step k vs ns in
+    firstOf ((not (s .placed), 4)
+    ∷ (not (all (s .ranges)), 5)
+    ∷ (not (refsGood (atOrdinal (starts t (s .earlier))) (body k) vs), 6)
+    ∷ (s .full, 7)
+    ∷ (ltb limit (front t + sizes (s .nodes)), 8) ∷ [])
+
+-- ---- the whole recipe
+
+pub record Meaning : Type 0 where
+  pub head : Head
+  pub nodes : List Node
+
+abbrev pub means : Head → List Node → Meaning
+means h ns = record { head = h; nodes = ns }
+
+-- the place of the newest node's record: p where one more node is there, else q as before
+abbrev pub since : List Node → List Node → ℕ → ℕ → ℕ
+since ns more p q = pick (eqb (length more) (length ns)) q p
+
+-- q: the place of the newest node's record
+unfoldable pub run : Head → ℕ → List Node → Calls → Answer Meaning
+run h q ns done = given (means h ns)
+run h q ns (badKind p) = refused 2 p
+run h q ns (cutOff p k) = refused 3 p
+run h q ns (called p k vs rest) =
+    unless (fault (h .table) ns k vs) p (run h (since ns (added k vs ns) p q) (added k vs ns) rest)
+
+abbrev pub tableOf : ℕ → Option Table
+tableOf c = find (λ t. eqb c (code t)) tables
+
+-- the head is 28 bytes: kind, table, and 26 that go over as they are
+unfoldable pub headed : List ℕ → Answer Head
+headed r =
+    unless (firstOf ((not (eqb (at r 0) 1), 1) ∷ (ltb (length r) 28, 3) ∷ [])) 0
+    (andThen (orRefused 5 0 (tableOf (at r 1))) (λ t. given (headOf t (part r 2 26))))
+
+-- what a recipe means, or refusal 1 to 8
+unfoldable pub meaning : List ℕ → Answer Meaning
+meaning r = andThen (headed r) (λ h. run h 0 [] (cut (h .table) 0 28 (drop 28 r)))

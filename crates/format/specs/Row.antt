@@ -1,0 +1,90 @@
+-- The layout rows: which row a record of a table matches, and which a reader knows.
+use Prim.Native.Nat.{ℕ, _-_, _/_, _%_, _^_}
+use mathlib.Core.List.{List, [], _∷_}
+use mathlib.Core.Bool.{Bool, true, false}
+use mathlib.Core.Option.{Option, none, some}
+use lib.ListN.{length}
+use lib.Dec.{eqb, leb}
+use Rattle.format.specs.Bytes.{pick, both, all, find, at, value, part}
+use Rattle.format.specs.Table.{Table, pptt, srat, hmat, revision}
+use Rattle.format.specs.Form.{Form, processor, cache, memory, acpi, pci, rintc, domain, matrix, side}
+
+pub data Row : Type 0 where
+  processors caches memories initiators rintcs domains matrices sides : Row
+
+abbrev pub rowNumber : Row → ℕ
+rowNumber processors = 0
+rowNumber caches = 1
+rowNumber memories = 2
+rowNumber initiators = 3
+rowNumber rintcs = 4
+rowNumber domains = 5
+rowNumber matrices = 6
+rowNumber sides = 7
+
+abbrev pub rows : Table → List Row
+rows pptt = processors ∷ caches ∷ []
+rows srat = memories ∷ initiators ∷ rintcs ∷ []
+rows hmat = domains ∷ matrices ∷ sides ∷ []
+
+-- the table whose signature the row names
+abbrev pub home : Row → Table
+home processors = pptt
+home caches = pptt
+home memories = srat
+home initiators = srat
+home rintcs = srat
+home domains = hmat
+home matrices = hmat
+home sides = hmat
+
+abbrev pub rowType : Row → ℕ
+rowType processors = 0
+rowType caches = 1
+rowType memories = 1
+rowType initiators = 5
+rowType rintcs = 7
+rowType domains = 0
+rowType matrices = 1
+rowType sides = 2
+
+-- the Length column, of a record's bytes
+unfoldable pub column : Row → List ℕ → Bool
+column processors bs = all (leb 20 (length bs) ∷ leb (length bs) 252 ∷ eqb (length bs % 4) 0 ∷ [])
+column caches bs = eqb (length bs) 28
+column memories bs = eqb (length bs) 40
+column initiators bs = eqb (length bs) 32
+column rintcs bs = eqb (length bs) 16
+column domains bs = eqb (length bs) 40
+column matrices bs = all (leb 32 (length bs) ∷ leb (value (part bs 12 4)) 255 ∷ leb (value (part bs 16 4)) 255 ∷ [])
+column sides bs = leb 32 (length bs)
+
+-- a row of the table matches on revision, type and Length column
+unfoldable pub matches : ℕ → ℕ → List ℕ → Row → Bool
+matches rev ty bs r = all (eqb rev (revision (home r)) ∷ eqb ty (rowType r) ∷ column r bs ∷ [])
+
+-- the row that matches a record of a table of this revision
+unfoldable pub rowOf : Table → ℕ → ℕ → List ℕ → Option Row
+rowOf t rev ty bs = find (matches rev ty bs) (rows t)
+
+-- the form of a record of a row: its inner counts, or its handle
+unfoldable pub formIn : Row → List ℕ → Form
+formIn processors bs = processor ((length bs - 20) / 4)
+formIn caches bs = cache
+formIn memories bs = memory
+formIn initiators bs = pick (eqb (at bs 3) 0) acpi pci
+formIn rintcs bs = rintc
+formIn domains bs = domain
+formIn matrices bs = matrix (value (part bs 12 4)) (value (part bs 16 4))
+formIn sides bs = side (value (part bs 30 2))
+
+-- ---- the mask of known rows
+
+-- the bit of the row is set
+abbrev pub knows : ℕ → Row → Bool
+knows mask r = eqb (mask / 2 ^ rowNumber r % 2) 1
+
+-- the row, where the mask has it
+abbrev pub known : ℕ → Option Row → Option Row
+known mask none = none
+known mask (some r) = pick (knows mask r) (some r) none

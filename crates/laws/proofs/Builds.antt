@@ -1,0 +1,157 @@
+-- A recipe that is not refused means good nodes, by induction over its records; so its table is read out as what it means.
+use mathlib.Core.Path.{_≡_, refl}
+use Prim.Native.Nat.{ℕ, zero, suc, _+_, _≤_, _<_}
+use mathlib.Core.List.{List, [], _∷_, _++_}
+use mathlib.Core.Bool.{Bool, true, false, not}
+use mathlib.Core.Option.{Option, none, some}
+use native.Mathlib.Omega.{arith}
+use lib.ListN.{length, take, drop, length-drop}
+use lib.Dec.{eqb, ltb}
+use borrow.Author.Tests.{ltb-false}
+use Rattle.format.specs.Bytes.{pick, both, firstOf, Bytes, at, part, Answer, refused, given, andThen, orRefused, unless}
+use Rattle.format.specs.Layout.{width, fieldsWith, fields, fixedOk}
+use Rattle.format.specs.Table.{Table, pptt, srat, hmat, front, limit, Head, headOf}
+use Rattle.format.specs.Node.{Node, sizes}
+use Rattle.format.specs.Kind.{Kind, Processor, Resource, Cache, Memory, Acpi, Pci, Rintc, Domain, Matrix, Initiator, Target, Cell, Side, Handle, kindNumber, kinds, kindOf, body}
+use Rattle.format.specs.Recipe.{Calls, done, badKind, cutOff, called, cutAs, skip, cut, added, fault, Meaning, means, since, run, tableOf, headed, meaning}
+use Rattle.format.specs.Build.{tableFrom}
+use Rattle.format.specs.Out.{meaningOf}
+use Rattle.laws.proofs.Bytes.{bytes-drop, length-part}
+use Rattle.laws.proofs.Finds.{All, found-in, then-given, or-given, unless-given}
+use Rattle.laws.proofs.Lays.{Fit, Sane, fields-fit}
+use Rattle.laws.proofs.Good.{Good}
+use Rattle.laws.proofs.Heads.{read-built}
+use Rattle.laws.proofs.Grows.{Passed, passed, kindHome, grows}
+
+-- ---- a body holds nothing fixed, and no two fields in one
+
+fixed-body : (k : Kind) (bs : List ℕ) → fixedOk (body k) bs ≡ true
+unfolding fixedOk body
+fixed-body Processor bs = refl
+fixed-body Resource bs = refl
+fixed-body Cache bs = refl
+fixed-body Memory bs = refl
+fixed-body Acpi bs = refl
+fixed-body Pci bs = refl
+fixed-body Rintc bs = refl
+fixed-body Domain bs = refl
+fixed-body Matrix bs = refl
+fixed-body Initiator bs = refl
+fixed-body Target bs = refl
+fixed-body Cell bs = refl
+fixed-body Side bs = refl
+fixed-body Handle bs = refl
+
+sane-body : (k : Kind) → Sane (body k)
+unfolding body
+sane-body Processor = (tt, (tt, (tt, tt)))
+sane-body Resource = (tt, tt)
+sane-body Cache = (tt, (tt, (tt, (tt, (tt, (tt, (tt, (tt, tt))))))))
+sane-body Memory = (tt, (tt, (tt, (tt, tt))))
+sane-body Acpi = (tt, (tt, (tt, (tt, tt))))
+sane-body Pci = (tt, (tt, (tt, (tt, (tt, (tt, tt))))))
+sane-body Rintc = (tt, (tt, (tt, tt)))
+sane-body Domain = (tt, (tt, tt))
+sane-body Matrix = (tt, (tt, (tt, (tt, (tt, (tt, tt))))))
+sane-body Initiator = (tt, (tt, tt))
+sane-body Target = (tt, (tt, tt))
+sane-body Cell = (tt, (tt, (tt, tt)))
+sane-body Side = (tt, (tt, (tt, tt)))
+sane-body Handle = (tt, tt)
+
+all-home : (t : Table) → All (λ k. kindHome k ≡ t) (kinds t)
+all-home pptt = (refl, (refl, (refl, tt)))
+all-home srat = (refl, (refl, (refl, (refl, tt))))
+all-home hmat = (refl, (refl, (refl, (refl, (refl, (refl, (refl, tt)))))))
+
+kind-home : (t : Table) (b : ℕ) (k : Kind) → kindOf t b ≡ some k → kindHome k ≡ t
+unfolding kindOf
+kind-home t b k e = found-in (λ k. kindHome k ≡ t) (λ k. eqb b (kindNumber k)) (kinds t) k (all-home t) e
+
+-- ---- what is cut fits
+
+abbrev Whole : Table → Calls → Type 0
+Whole t done = Unit
+Whole t (badKind p) = Unit
+Whole t (cutOff p k) = Unit
+Whole t (called p k vs rest) = (kindHome k ≡ t) × Fit (body k) vs × Whole t rest
+
+whole-as : (t : Table) (o : Option Kind) (bs : List ℕ) (p : ℕ) (rest : Calls) → ((k : Kind) → o ≡ some k → kindHome k ≡ t) → Bytes bs → Whole t rest → Whole t (cutAs o bs p rest)
+unfolding cutAs
+whole-as t none bs p rest s h w = tt
+whole-as t (some k) bs p rest s h w = long (ltb (length bs) (width (body k))) refl
+  where
+    long : (x : Bool) → ltb (length bs) (width (body k)) ≡ x → Whole t (pick x (cutOff p k) (called p k (fields (body k) bs) rest))
+    long true e = tt
+    long false e = (s k refl, fields-fit (body k) bs (sane-body k) h (ltb-false (length bs) (width (body k)) e) (fixed-body k bs), w)
+
+cut-whole : (t : Table) (n p : ℕ) (bs : List ℕ) → Bytes bs → Whole t (cut t n p bs)
+unfolding cut
+cut-whole t n p [] h = tt
+cut-whole t (suc n) p (b ∷ bs) h = cut-whole t n (suc p) bs (h .1)
+cut-whole t zero p (b ∷ bs) h =
+    whole-as t (kindOf t b) bs p (cut t (skip (kindOf t b)) (suc p) bs) (λ k e. kind-home t b k e) (h .1) (cut-whole t (skip (kindOf t b)) (suc p) bs (h .1))
+
+-- ---- the pass
+
+run-good : (h : Head) (q : ℕ) (ns : List Node) (cs : Calls) (m : Meaning)
+    → Whole (h .table) cs → Good (h .table) ns → front (h .table) + sizes ns ≤ limit → run h q ns cs ≡ given m
+    → (h ≡ m .head) × Good (h .table) (m .nodes) × (front (h .table) + sizes (m .nodes) ≤ limit)
+unfolding run
+run-good h q ns done m w g l e =
+    let z : means h ns ≡ m = cc in
+    rw (← z) (refl, g, l)
+run-good h q ns (badKind p) m w g l e = absurd (let z : _≡_ {A = ℕ} 0 1 = cc in omega arith)
+run-good h q ns (cutOff p k) m w g l e = absurd (let z : _≡_ {A = ℕ} 0 1 = cc in omega arith)
+run-good h q ns (called p k vs rest) m (own, f, w) g l e =
+    let (z, r) = unless-given (fault (h .table) ns k vs) p (run h (since ns (added k vs ns) p q) (added k vs ns) rest) e in
+    let s = passed (h .table) ns k vs z in
+    let n : Good (kindHome k) (added k vs ns) = grows k vs ns f (rw own s) (rw own g) in
+    run-good h (since ns (added k vs ns) p q) (added k vs ns) rest m w (rw own at n) (s .short) r
+
+front-short : (t : Table) → front t + sizes [] ≤ limit
+unfolding sizes
+front-short pptt = omega arith
+front-short srat = omega arith
+front-short hmat = omega arith
+
+-- what a recipe means: a head of the table's own revision, and good nodes within the limit
+pub record Means (m : Meaning) : Type 0 where
+  pub head : m .head ≡ headOf (m .head .table) (m .head .identity)
+  pub identity : length (m .head .identity) ≡ 26
+  pub good : Good (m .head .table) (m .nodes)
+  pub short : front (m .head .table) + sizes (m .nodes) ≤ limit
+
+two-tests : (a b : Bool) → firstOf ((a, 1) ∷ (b, 3) ∷ []) ≡ 0 → (a ≡ false) × (b ≡ false)
+two-tests true b e = absurd (omega arith)
+two-tests false true e = absurd (omega arith)
+two-tests false false e = (refl, refl)
+
+-- the head of a recipe that has one
+pub headed-given : (r : List ℕ) (h : Head) → headed r ≡ given h → (h ≡ headOf (h .table) (h .identity)) × (length (h .identity) ≡ 26)
+unfolding headed
+headed-given r h e =
+    let faults = firstOf ((not (eqb (at r 0) 1), 1) ∷ (ltb (length r) 28, 3) ∷ []) in
+    let (z, d) = unless-given faults 0 (andThen (orRefused 5 0 (tableOf (at r 1))) (λ t. given (headOf t (part r 2 26)))) e in
+    let n : 28 ≤ length r = ltb-false (length r) 28 (two-tests (not (eqb (at r 0) 1)) (ltb (length r) 28) z .1) in
+    let (t, o, f) = then-given (orRefused 5 0 (tableOf (at r 1))) (λ t. given (headOf t (part r 2 26))) d in
+    let y : headOf t (part r 2 26) ≡ h = cc in
+    rw (← y) (refl, length-part r 2 26 (omega arith))
+
+pub meaning-good : (r : List ℕ) (m : Meaning) → Bytes r → meaning r ≡ given m → Means m
+unfolding meaning
+meaning-good r m b e =
+    let (h, d, f) = then-given (headed r) (λ h. run h 0 [] (cut (h .table) 0 28 (drop 28 r))) e in
+    let t = h .table in
+    let (same, g, l) = run-good h 0 [] (cut t 0 28 (drop 28 r)) m (cut-whole t 0 28 (drop 28 r) (bytes-drop 28 r b)) tt (front-short t) f in
+    let (own, n) = headed-given r h d in
+    record { head = rw same at own; identity = rw same at n; good = rw same at g; short = rw same at l }
+
+-- ---- the table of what a recipe means, means that
+
+pub table-means : (r : List ℕ) (m : Meaning) → Bytes r → meaning r ≡ given m → meaningOf (tableFrom m) ≡ given m
+table-means r m b e =
+    let x = meaning-good r m b e in
+    let h = x .head in
+    let y = read-built (m .head .table) (m .head .identity) (m .nodes) (x .identity) (x .good) (x .short) in
+    rw (← h) at y

@@ -1,0 +1,233 @@
+-- The records of a good node, cut and taken one by one, give the node back: for nodes of one record, and for those with a list.
+use mathlib.Core.Path.{_≡_, refl, ap, _∙_}
+use Prim.Native.Nat.{ℕ, zero, suc, _+_, _-_, _*_, _^_, _≤_, _<_}
+use mathlib.Core.List.{List, [], _∷_, _++_, append-assoc, append-nil}
+use mathlib.Core.Bool.{Bool, true, false}
+use mathlib.Core.Option.{Option, none, some}
+use native.Mathlib.Omega.{arith}
+use native.Mathlib.Nat.{add-zero}
+use lib.ListN.{length, take, drop, replicate, length-append}
+use lib.Seq.{drop-at}
+use lib.Dec.{eqb, leb, ltb}
+use borrow.Author.Tests.{le-ltb, lt-leb, ltb-true, leb-true}
+use Rattle.format.specs.Bytes.{pick, both, all, find, at, Answer, refused, given, unless}
+use Rattle.format.specs.Layout.{fix, fld, two, to, orNone, width, layWith, lay, fieldsWith, isGood, refsGood}
+use Rattle.format.specs.Table.{Table, pptt, srat, hmat, front, limit, Head}
+use Rattle.format.specs.Form.{Form, processor, cache, memory, acpi, pci, rintc, domain, matrix, side, size, layout, ranges}
+use Rattle.format.specs.Node.{Node, node, Entry, sizes, starts, atOrdinal}
+use Rattle.format.specs.Kind.{Kind, Processor, Resource, Cache, Memory, Acpi, Pci, Rintc, Domain, Matrix, Initiator, Target, Cell, Side, Handle, kindNumber, kindOf, body}
+use Rattle.format.specs.Recipe.{cutAs, skip, cut, called, resource, handle, step, added, fault, since, run}
+use Rattle.format.specs.Normal.{call, each}
+use Rattle.laws.proofs.Finds.{All}
+use Rattle.laws.proofs.Lays.{Fit, FitItem, both-true, length-lay, fields-lay}
+use Rattle.laws.proofs.Fits.{second, fourth, fld-fit, refit}
+use Rattle.laws.proofs.Good.{GoodNode}
+use Rattle.laws.proofs.Grows.{Passed, no-fault, kindHome}
+
+kind-back : (k : Kind) → kindOf (kindHome k) (kindNumber k) ≡ some k
+unfolding kindOf
+kind-back Processor = refl
+kind-back Resource = refl
+kind-back Cache = refl
+kind-back Memory = refl
+kind-back Acpi = refl
+kind-back Pci = refl
+kind-back Rintc = refl
+kind-back Domain = refl
+kind-back Matrix = refl
+kind-back Initiator = refl
+kind-back Target = refl
+kind-back Cell = refl
+kind-back Side = refl
+kind-back Handle = refl
+
+cut-skip : (t : Table) (k p : ℕ) (bs : List ℕ) → cut t k p bs ≡ cut t 0 (p + k) (drop k bs)
+unfolding cut
+cut-skip t zero p bs = rw add-zero
+cut-skip t (suc k) p [] = refl
+cut-skip t (suc k) p (b ∷ bs) =
+    let e : suc p + k ≡ p + suc k = omega arith in
+    cut-skip t k (suc p) bs ∙ rw e
+
+cut-call : (k : Kind) (vs rest : List ℕ) (p : ℕ) → Fit (body k) vs
+    → cut (kindHome k) 0 p (call k vs ++ rest) ≡ called p k vs (cut (kindHome k) 0 (suc p + width (body k)) rest)
+unfolding cut cutAs
+cut-call k vs rest p f =
+    let w = width (body k) in
+    let xs = lay (body k) vs in
+    let l : length xs ≡ w = length-lay (λ v. v) (body k) vs in
+    let m : w ≤ length (xs ++ rest) = simp length-append (omega arith) in
+    rw (kind-back k, le-ltb (length (xs ++ rest)) w m, fields-lay (body k) vs rest f, cut-skip (kindHome k) w (suc p) (xs ++ rest), drop-at xs rest w l)
+
+-- ---- bytes that lead from nodes to nodes, under heads of revision v and identity is
+
+module _ (v : ℕ) (is : List ℕ) where
+  abbrev pub under : Table → Head
+  under t = record { table = t; revision = v; identity = is }
+
+  abbrev pub Leads : Table → List Node → List ℕ → List Node → Type 0
+  Leads t ns xs ns′ = (p q : ℕ) (rest : List ℕ) → (p′ : ℕ) × (q′ : ℕ) × (run (under t) q ns (cut t 0 p (xs ++ rest)) ≡ run (under t) q′ ns′ (cut t 0 p′ rest))
+
+  pub stay : (t : Table) (ns : List Node) → Leads t ns [] ns
+  stay t ns p q rest = (p, q, refl)
+
+  pub then : (t : Table) (ns₁ ns₂ ns₃ : List Node) (xs ys : List ℕ) → Leads t ns₁ xs ns₂ → Leads t ns₂ ys ns₃ → Leads t ns₁ (xs ++ ys) ns₃
+  then t ns₁ ns₂ ns₃ xs ys a b p q rest =
+      let (p₁, q₁, e) = a p q (ys ++ rest) in
+      let (p₂, q₂, f) = b p₁ q₁ rest in
+      (p₂, q₂, rw append-assoc (e ∙ f))
+
+  pub lead : (k : Kind) (vs : List ℕ) (ns : List Node) → Fit (body k) vs → Passed (kindHome k) ns k vs → Leads (kindHome k) ns (call k vs) (added k vs ns)
+  unfolding run
+  lead k vs ns f s p q rest = (suc p + width (body k), since ns (added k vs ns) p q, rw (cut-call k vs rest p f, no-fault (kindHome k) ns k vs s))
+
+-- ---- nodes of one record
+
+module _ (v : ℕ) (is vs : List ℕ) (ns : List Node) where
+  pub lead-cache : GoodNode pptt (starts pptt ns) (node cache vs) → front pptt + sizes (node cache vs ∷ ns) ≤ limit → Leads v is pptt ns (call Cache vs) (node cache vs ∷ ns)
+  unfolding body layout ranges refsGood step
+  lead-cache g l =
+      let f = g .fit in
+      let q = both-true (ltb (at vs 0) 256) _ (g .ruled) in
+      lead v is Cache vs ns (refit (omega (arith, ltb-true (at vs 0) 256 (q .0))) (f .1 .1 .1 .0), f .1 .1 .1 .1)
+      (record { place = refl; field = g .ruled; refs = g .refs; room = refl; short = l })
+
+  pub lead-memory : GoodNode srat (starts srat ns) (node memory vs) → front srat + sizes (node memory vs ∷ ns) ≤ limit → Leads v is srat ns (call Memory vs) (node memory vs ∷ ns)
+  unfolding body layout ranges refsGood step
+  lead-memory g l =
+      let f = g .fit in
+      let b : at (drop 1 (drop 1 (drop 1 vs))) 0 < 256 ^ 1 = omega (arith, leb-true (at vs 3) 7 (g .ruled), fourth vs) in
+      lead v is Memory vs ns (f .1 .1 .0, (f .1 .1 .1 .1 .0, (f .1 .1 .1 .1 .1 .0, (refit b (f .1 .1 .1 .1 .1 .1 .1 .0), f .1 .1 .1 .1 .1 .1 .1 .1 .1))))
+      (record { place = refl; field = g .ruled; refs = refl; room = refl; short = l })
+
+  pub lead-acpi : GoodNode srat (starts srat ns) (node acpi vs) → front srat + sizes (node acpi vs ∷ ns) ≤ limit → Leads v is srat ns (call Acpi vs) (node acpi vs ∷ ns)
+  unfolding body layout ranges refsGood step
+  lead-acpi g l =
+      let f = g .fit in
+      let b : at (drop 1 (drop 1 (drop 1 vs))) 0 < 256 ^ 1 = omega (arith, leb-true (at vs 3) 3 (g .ruled), fourth vs) in
+      lead v is Acpi vs ns (f .1 .1 .1 .1 .0, (f .1 .1 .1 .1 .1 .0, (f .1 .1 .1 .1 .1 .1 .0, (refit b (f .1 .1 .1 .1 .1 .1 .1 .1 .0), f .1 .1 .1 .1 .1 .1 .1 .1 .1 .1))))
+      (record { place = refl; field = g .ruled; refs = refl; room = refl; short = l })
+
+  pub lead-rintc : GoodNode srat (starts srat ns) (node rintc vs) → front srat + sizes (node rintc vs ∷ ns) ≤ limit → Leads v is srat ns (call Rintc vs) (node rintc vs ∷ ns)
+  unfolding body layout ranges refsGood step
+  lead-rintc g l =
+      let f = g .fit in
+      let b : at (drop 1 vs) 0 < 256 ^ 1 = omega (arith, leb-true (at vs 1) 1 (g .ruled), second vs) in
+      lead v is Rintc vs ns (f .1 .1 .1 .0, (refit b (f .1 .1 .1 .1 .0), f .1 .1 .1 .1 .1))
+      (record { place = refl; field = g .ruled; refs = refl; room = refl; short = l })
+
+  pub lead-domain : GoodNode hmat (starts hmat ns) (node domain vs) → front hmat + sizes (node domain vs ∷ ns) ≤ limit → Leads v is hmat ns (call Domain vs) (node domain vs ∷ ns)
+  unfolding body layout refsGood step
+  lead-domain g l =
+      let f = g .fit in
+      lead v is Domain vs ns (f .1 .1 .1 .1 .1 .0, (f .1 .1 .1 .1 .1 .1 .0, f .1 .1 .1 .1 .1 .1 .1 .1))
+      (record { place = refl; field = refl; refs = refl; room = refl; short = l })
+
+pub lead-pci : (v : ℕ) (is vs : List ℕ) (ns : List Node) → length vs ≡ 6 → GoodNode srat (starts srat ns) (node pci vs) → front srat + sizes (node pci vs ∷ ns) ≤ limit → Leads v is srat ns (call Pci vs) (node pci vs ∷ ns)
+unfolding body layout ranges refsGood step
+lead-pci v is [] ns m g l = absurd (omega arith)
+lead-pci v is (a ∷ []) ns m g l = absurd (omega arith)
+lead-pci v is (a ∷ b ∷ []) ns m g l = absurd (omega arith)
+lead-pci v is (a ∷ b ∷ c ∷ []) ns m g l = absurd (omega arith)
+lead-pci v is (a ∷ b ∷ c ∷ d ∷ []) ns m g l = absurd (omega arith)
+lead-pci v is (a ∷ b ∷ c ∷ d ∷ e ∷ []) ns m g l = absurd (omega arith)
+lead-pci v is (a ∷ b ∷ c ∷ d ∷ e ∷ x ∷ vs) ns m g l =
+    let f = g .fit in
+    let p = both-true (leb d 31) (both (leb e 7) (leb x 3)) (g .ruled) in
+    let q = both-true (leb e 7) (leb x 3) (p .1) in
+    lead v is Pci (a ∷ b ∷ c ∷ d ∷ e ∷ x ∷ vs) ns (
+      f .1 .1 .1 .1 .0,
+      (
+        f .1 .1 .1 .1 .1 .0,
+        (
+          f .1 .1 .1 .1 .1 .1 .0,
+          (fld-fit (omega (arith, leb-true d 31 (p .0))), (fld-fit (omega (arith, leb-true e 7 (q .0))), (fld-fit (omega (arith, leb-true x 3 (q .1))), f .1 .1 .1 .1 .1 .1 .1 .1 .1 .1 .1))),
+        ),
+      ),
+    )
+    (record { place = refl; field = g .ruled; refs = refl; room = refl; short = l })
+
+-- ---- lists
+
+module _ (v : ℕ) (is : List ℕ) (t : Table) (k : Kind) (F : ℕ → Form) (ns : List Node) (Ok : ℕ → Type 0) (most : ℕ)
+    (one : (m : ℕ) (us : List ℕ) (w : ℕ) → Ok w → m < most → Leads v is t (node (F m) us ∷ ns) (call k (w ∷ [])) (node (F (suc m)) (us ++ (w ∷ [])) ∷ ns)) where
+  each-lead : (m : ℕ) (us ws : List ℕ) → All Ok ws → m + length ws ≤ most → Leads v is t (node (F m) us ∷ ns) (each k ws) (node (F (m + length ws)) (us ++ ws) ∷ ns)
+  unfolding each
+  each-lead m us [] a l = rw (add-zero, append-nil) (stay v is t (node (F m) us ∷ ns))
+  each-lead m us (w ∷ ws) a l =
+      let e : suc m + length ws ≡ m + suc (length ws) = omega arith in
+      let r : Leads v is t (node (F (suc m)) (us ++ (w ∷ [])) ∷ ns) (each k ws) (node (F (suc m + length ws)) ((us ++ (w ∷ [])) ++ ws) ∷ ns) =
+      each-lead (suc m) (us ++ (w ∷ [])) ws (a .1) (omega arith) in
+      then v is t (node (F m) us ∷ ns) (node (F (suc m)) (us ++ (w ∷ [])) ∷ ns) (node (F (m + suc (length ws))) (us ++ (w ∷ ws)) ∷ ns) (call k (w ∷ [])) (each k ws)
+      (one m us w (a .0) (omega arith)) (rw (e, append-assoc us (w ∷ []) ws) at r)
+
+-- a resource that fits, and names an earlier cache
+abbrev Refers : List Entry → ℕ → Type 0
+Refers es w = (w < 256 ^ 4) × (atOrdinal es w 1 ≡ true)
+
+all-refer : (es : List Entry) (n : ℕ) (ws : List ℕ) → Fit (replicate n (to 1)) ws → refsGood (atOrdinal es) (replicate n (to 1)) ws ≡ true → All (Refers es) ws × (length ws ≡ n)
+unfolding refsGood
+all-refer es zero ws f r = (rw f tt, ap length f)
+all-refer es (suc n) [] f r = let l : 1 ≤ 0 = f .0 .there in absurd (omega arith)
+all-refer es (suc n) (w ∷ ws) f r =
+    let p = both-true (atOrdinal es w 1) (refsGood (atOrdinal es) (replicate n (to 1)) ws) r in
+    let q = all-refer es n ws (f .1) (p .1) in
+    (((f .0 .below, p .0), q .0), ap suc (q .1))
+
+pub all-below : (k n : ℕ) (ws : List ℕ) → Fit (replicate n (fld k)) ws → All (λ w. w < 256 ^ k) ws × (length ws ≡ n)
+all-below k zero ws f = (rw f tt, ap length f)
+all-below k (suc n) [] f = let l : 1 ≤ 0 = f .0 .there in absurd (omega arith)
+all-below k (suc n) (w ∷ ws) f = let q = all-below k n ws (f .1) in ((f .0 .below, q .0), ap suc (q .1))
+
+module _ (v : ℕ) (is : List ℕ) (ns : List Node) (n : ℕ) where
+  one-resource : n ≤ 58 → front pptt + (sizes ns + size (processor n)) ≤ limit → (m : ℕ) (us : List ℕ) (w : ℕ) → Refers (starts pptt ns) w → m < n
+      → Leads v is pptt (node (processor m) us ∷ ns) (call Resource (w ∷ [])) (node (processor (suc m)) (us ++ (w ∷ [])) ∷ ns)
+  unfolding body refsGood step resource sizes
+  one-resource k l m us w o b =
+      lead v is Resource (w ∷ []) (node (processor m) us ∷ ns) (record { there = omega arith; below = o .0; low = tt }, refl)
+      (record { place = refl; field = refl; refs = rw (o .1); room = lt-leb 58 m (omega arith); short = omega arith })
+
+  one-handle : n ≤ 65535 → front hmat + (sizes ns + size (side n)) ≤ limit → (m : ℕ) (us : List ℕ) (w : ℕ) → w < 256 ^ 2 → m < n
+      → Leads v is hmat (node (side m) us ∷ ns) (call Handle (w ∷ [])) (node (side (suc m)) (us ++ (w ∷ [])) ∷ ns)
+  unfolding body refsGood step handle sizes
+  one-handle k l m us w o b =
+      lead v is Handle (w ∷ []) (node (side m) us ∷ ns) (fld-fit o, refl)
+      (record { place = refl; field = refl; refs = refl; room = lt-leb 65535 m (omega arith); short = omega arith })
+
+pub lead-processor : (v : ℕ) (is : List ℕ) (n : ℕ) (vs : List ℕ) (ns : List Node) → GoodNode pptt (starts pptt ns) (node (processor n) vs) → front pptt + (sizes ns + size (processor n)) ≤ limit
+    → Leads v is pptt ns (call Processor (take 3 vs) ++ each Resource (drop 3 vs)) (node (processor n) vs ∷ ns)
+unfolding layout refsGood body step sizes
+lead-processor v is n [] ns g l = let z : 1 ≤ 0 = g .fit .1 .1 .1 .0 .there in absurd (omega arith)
+lead-processor v is n (a ∷ []) ns g l = let z : 1 ≤ 0 = g .fit .1 .1 .1 .1 .0 .there in absurd (omega arith)
+lead-processor v is n (a ∷ b ∷ []) ns g l = let z : 1 ≤ 0 = g .fit .1 .1 .1 .1 .1 .0 .there in absurd (omega arith)
+lead-processor v is n (a ∷ b ∷ c ∷ ws) ns g l =
+    let es = starts pptt ns in
+    let f = g .fit .1 .1 .1 in
+    let p = both-true (isGood (atOrdinal es) (orNone 0) b) (refsGood (atOrdinal es) (replicate n (to 1)) ws) (g .refs) in
+    let q = all-refer es n ws (f .1 .1 .1 .1) (p .1) in
+    let k : n ≤ 58 = g .within in
+    let first : Leads v is pptt ns (call Processor (a ∷ b ∷ c ∷ [])) (node (processor 0) (a ∷ b ∷ c ∷ []) ∷ ns) =
+    lead v is Processor (a ∷ b ∷ c ∷ []) ns (fld-fit (f .0 .below), (record { there = omega arith; below = f .1 .0 .below; low = tt }, (fld-fit (f .1 .1 .0 .below), refl)))
+    (record { place = refl; field = refl; refs = rw (p .0); room = refl; short = omega arith }) in
+    let z : 0 + length ws ≡ n = omega (arith, q .1) in
+    let more : Leads v is pptt (node (processor 0) (a ∷ b ∷ c ∷ []) ∷ ns) (each Resource ws) (node (processor (0 + length ws)) (a ∷ b ∷ c ∷ ws) ∷ ns) =
+    each-lead v is pptt Resource processor ns (Refers es) n (one-resource v is ns n k l) 0 (a ∷ b ∷ c ∷ []) ws (q .0) (omega arith) in
+    then v is pptt ns (node (processor 0) (a ∷ b ∷ c ∷ []) ∷ ns) (node (processor n) (a ∷ b ∷ c ∷ ws) ∷ ns) (call Processor (a ∷ b ∷ c ∷ [])) (each Resource ws) first (rw z at more)
+
+pub lead-side : (v : ℕ) (is : List ℕ) (n : ℕ) (vs : List ℕ) (ns : List Node) → GoodNode hmat (starts hmat ns) (node (side n) vs) → front hmat + (sizes ns + size (side n)) ≤ limit
+    → Leads v is hmat ns (call Side (take 3 vs) ++ each Handle (drop 3 vs)) (node (side n) vs ∷ ns)
+unfolding layout refsGood ranges body step sizes
+lead-side v is n [] ns g l = let z : 1 ≤ 0 = g .fit .1 .1 .1 .0 .there in absurd (omega arith)
+lead-side v is n (a ∷ []) ns g l = let z : 1 ≤ 0 = g .fit .1 .1 .1 .1 .1 .0 .there in absurd (omega arith)
+lead-side v is n (a ∷ b ∷ []) ns g l = let z : 1 ≤ 0 = g .fit .1 .1 .1 .1 .1 .1 .0 .there in absurd (omega arith)
+lead-side v is n (a ∷ b ∷ c ∷ ws) ns g l =
+    let f = g .fit .1 .1 .1 in
+    let q = all-below 2 n ws (f .1 .1 .1 .1 .1 .1) in
+    let k : n ≤ 65535 = g .within in
+    let first : Leads v is hmat ns (call Side (a ∷ b ∷ c ∷ [])) (node (side 0) (a ∷ b ∷ c ∷ []) ∷ ns) =
+    lead v is Side (a ∷ b ∷ c ∷ []) ns (fld-fit (f .0 .below), (fld-fit (f .1 .1 .0 .below), (fld-fit (f .1 .1 .1 .0 .below), refl)))
+    (record { place = refl; field = g .ruled; refs = refl; room = refl; short = omega arith }) in
+    let z : 0 + length ws ≡ n = omega (arith, q .1) in
+    let more : Leads v is hmat (node (side 0) (a ∷ b ∷ c ∷ []) ∷ ns) (each Handle ws) (node (side (0 + length ws)) (a ∷ b ∷ c ∷ ws) ∷ ns) =
+    each-lead v is hmat Handle side ns (λ w. w < 256 ^ 2) n (one-handle v is ns n k l) 0 (a ∷ b ∷ c ∷ []) ws (q .0) (omega arith) in
+    then v is hmat ns (node (side 0) (a ∷ b ∷ c ∷ []) ∷ ns) (node (side n) (a ∷ b ∷ c ∷ ws) ∷ ns) (call Side (a ∷ b ∷ c ∷ [])) (each Handle ws) first (rw z at more)

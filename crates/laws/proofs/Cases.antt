@@ -1,0 +1,35 @@
+-- C1 to C12 hold by computation.
+use mathlib.Core.Path.{refl}
+use Rattle.format.specs.Bytes.{le, value, part, over, sum, same}
+use Rattle.format.specs.Layout.{width, layWith, fieldsWith, fixedOk, refsGood}
+use Rattle.format.specs.Form.{layout, cacheAttributes, matrixFlags, sideAttributes, ranges}
+use Rattle.format.specs.Row.{column, matches, rowOf, formIn}
+use Rattle.format.specs.Kind.{kindOf, body}
+use Rattle.format.specs.Node.{bytes, nodeAt, sizes, starts, atPlace, atOrdinal, placeOf, ordinalOf}
+use Rattle.format.specs.Recipe.{cutAs, cut, resource, handle, setting, unset, step, fault, run, headed, meaning}
+use Rattle.format.specs.Build.{records, header, summed, tableFrom, build, table, written, built}
+use Rattle.format.specs.Normal.{each, eachSet, settings, calls, callsOf, recipeOf, normal}
+use Rattle.format.specs.Read.{headFault, judgeHead, framed, frames, sound, recordFault, walk, walked, accept, shown, listIn, fieldsOf, partOf, read, readPart}
+use Rattle.format.specs.Out.{nodesFrom, outOf, meaningOf, readOut, recipe, outWritten}
+use Rattle.laws.specs.Cases.{CheckedByHand}
+
+pub checked : CheckedByHand
+unfolding le value part over sum same width layWith fieldsWith fixedOk refsGood layout cacheAttributes matrixFlags sideAttributes ranges column matches rowOf formIn kindOf body bytes nodeAt sizes starts atPlace atOrdinal placeOf ordinalOf cutAs cut resource handle setting unset step fault run headed meaning records header summed tableFrom build table written built each eachSet settings calls callsOf recipeOf normal headFault judgeHead framed frames sound recordFault walk walked accept shown listIn fieldsOf partOf read readPart nodesFrom outOf meaningOf readOut recipe outWritten
+checked =
+    record {
+      c1 = (refl, refl, refl);
+      c2 = (refl, refl, refl);
+      c3 = (refl, refl, refl);
+      c3-resource = refl;
+      c4 = (refl, refl, refl);
+      c5 = (refl, refl, refl);
+      c6 = refl;
+      c7 = λ room. refl;
+      c8 = refl;
+      c8-cell = refl;
+      c9 = refl;
+      c10 = λ room. refl;
+      c11 = λ room. refl;
+      c12 = refl;
+      c12-part = refl;
+    }

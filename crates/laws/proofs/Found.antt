@@ -1,0 +1,158 @@
+-- A known record that a reader has found behind good nodes is the record of a good node: its form is read off its row, its length off its fixed items, and the rest are the laws of layouts and of references.
+use mathlib.Core.Path.{_≡_, refl, sym, ap, _∙_}
+use Prim.Native.Nat.{ℕ, zero, suc, _^_, _≤_, _<_}
+use mathlib.Core.List.{List, [], _∷_, _++_}
+use mathlib.Core.Bool.{Bool, true, false, not}
+use mathlib.Core.Option.{some}
+use native.Mathlib.Omega.{arith}
+use native.Mathlib.Nat.{pow-le-pow-right, zero-lt-suc, lt-of-lt-of-le}
+use lib.ListN.{length, take, drop, replicate, length-take}
+use lib.Seq.{drop-drop}
+use lib.Dec.{eqb, leb}
+use borrow.Author.Tests.{eqb-true, leb-true}
+use Rattle.format.specs.Bytes.{pick, all, firstOf, Bytes, at, value, part}
+use Rattle.format.specs.Layout.{Item, fix, wide, arities, isFixed, width, fieldsWith, fields, fixedOk, refsGood}
+use Rattle.format.specs.Table.{Table, revision}
+use Rattle.format.specs.Form.{Form, processor, cache, memory, acpi, pci, rintc, domain, matrix, side, size, typeOf, layout, ranges}
+use Rattle.format.specs.Row.{Row, processors, caches, memories, initiators, rintcs, domains, matrices, sides, home, rowType, column, matches, rowOf, formIn}
+use Rattle.format.specs.Node.{Node, bytes, nodeAt, Entry, atPlace, atOrdinal, placeOf, ordinalOf}
+use Rattle.format.specs.Read.{sizeIn, sound, recordFault}
+use Rattle.laws.specs.Rename.{rename}
+use Rattle.laws.proofs.Bytes.{value-lt, bytes-take, bytes-drop}
+use Rattle.laws.proofs.Lays.{both-true, Fit, fit-length, SaneItem, Sane, fields-fit, fields-rename, lay-rename, fit-rename}
+use Rattle.laws.proofs.Nodes.{width-layout, bytes-node}
+use Rattle.laws.proofs.Links.{Rising, ordinal-below, back, place-zero, ordinal-zero, refs-kept}
+use Rattle.laws.proofs.Shapes.{Within, rowFor, tableFor, type-for, ranges-rename}
+use Rattle.laws.proofs.Good.{GoodNode}
+use Rattle.laws.proofs.Masks.{row-then, row-home}
+
+-- ---- the row
+
+-- a row that matches has the record's type, and its Length column passes
+row-tests : (rev ty : ℕ) (bs : List ℕ) (r : Row) → matches rev ty bs r ≡ true → (ty ≡ rowType r) × (column r bs ≡ true)
+unfolding matches
+row-tests rev ty bs r e =
+    let p = both-true (eqb ty (rowType r)) (column r bs) (both-true (eqb rev (revision (home r))) _ e .1) in
+    (eqb-true ty (rowType r) (p .0), p .1)
+
+-- ---- its form
+
+part-below : (bs : List ℕ) (p n : ℕ) → Bytes bs → value (part bs p n) < 256 ^ n
+unfolding part
+part-below bs p n h =
+    let c = take n (drop p bs) in
+    let l : length c ≤ n = simp length-take (omega arith) in
+    lt-of-lt-of-le (value-lt c (bytes-take n (drop p bs) (bytes-drop p bs h))) (pow-le-pow-right (zero-lt-suc 255) l)
+
+-- the form that is read in a record of a row is a form of that row, with its counts within their limits
+row-form : (r : Row) (bs : List ℕ) → Bytes bs → column r bs ≡ true → (rowFor (formIn r bs) ≡ r) × Within (formIn r bs)
+unfolding formIn column
+row-form processors bs h e =
+    let p = both-true (leb (length bs) 252) _ (both-true (leb 20 (length bs)) _ e .1) in
+    (refl, omega (arith, leb-true (length bs) 252 (p .0)))
+row-form caches bs h e = (refl, tt)
+row-form memories bs h e = (refl, tt)
+row-form initiators bs h e = split (eqb (at bs 3) 0)
+  where
+    split : (x : Bool) → (rowFor (pick x acpi pci) ≡ initiators) × Within (pick x acpi pci)
+    split true = (refl, tt)
+    split false = (refl, tt)
+row-form rintcs bs h e = (refl, tt)
+row-form domains bs h e = (refl, tt)
+row-form matrices bs h e =
+    let i = value (part bs 12 4) in
+    let t = value (part bs 16 4) in
+    let p = both-true (leb i 255) (leb t 255) (both-true (leb 32 (length bs)) _ e .1) in
+    (refl, (leb-true i 255 (p .0), leb-true t 255 (p .1)))
+row-form sides bs h e = (refl, omega (arith, part-below bs 30 2 h))
+
+-- ---- its layout
+
+sane-replicate : (n : ℕ) (i : Item) → SaneItem i → Sane (replicate n i)
+sane-replicate zero i s = tt
+sane-replicate (suc n) i s = (s, sane-replicate n i s)
+
+sane-append : (is js : List Item) → Sane is → Sane js → Sane (is ++ js)
+sane-append [] js s u = u
+sane-append (i ∷ is) js s u = (s .0, sane-append is js (s .1) u)
+
+sane-layout : (f : Form) → Sane (layout f)
+unfolding layout
+sane-layout (processor n) = search (arith, sane-replicate)
+sane-layout cache = search arith
+sane-layout memory = search arith
+sane-layout acpi = search arith
+sane-layout pci = search arith
+sane-layout rintc = search arith
+sane-layout domain = search arith
+sane-layout (matrix i t) = search (arith, sane-replicate, sane-append)
+sane-layout (side n) = search (arith, sane-replicate)
+
+-- a fixed number behind other items is the one it has to be
+fixed-at : (is : List Item) (w v : ℕ) (js : List Item) (bs : List ℕ) → fixedOk (is ++ fix w v ∷ js) bs ≡ true → value (part bs (width is) w) ≡ v
+unfolding fixedOk width part
+fixed-at [] w v js bs e = eqb-true (value (take w bs)) v (both-true (eqb (value (take w bs)) v) _ e .0)
+fixed-at (i ∷ is) w v js bs e =
+    rw (← drop-drop (width is) (wide i) bs) (fixed-at is w v js (drop (wide i) bs) (both-true (isFixed i (value (take (wide i) bs))) _ e .1))
+
+size-found : (f : Form) (bs : List ℕ) → fixedOk (layout f) bs ≡ true → sizeIn (tableFor f) bs ≡ size f
+unfolding layout width
+size-found (processor n) bs e = fixed-at (fix 1 0 ∷ []) 1 (size (processor n)) _ bs e
+size-found cache bs e = fixed-at (fix 1 1 ∷ []) 1 (size cache) _ bs e
+size-found memory bs e = fixed-at (fix 1 1 ∷ []) 1 (size memory) _ bs e
+size-found acpi bs e = fixed-at (fix 1 5 ∷ []) 1 (size acpi) _ bs e
+size-found pci bs e = fixed-at (fix 1 5 ∷ []) 1 (size pci) _ bs e
+size-found rintc bs e = fixed-at (fix 1 7 ∷ []) 1 (size rintc) _ bs e
+size-found domain bs e = fixed-at (fix 2 0 ∷ fix 2 0 ∷ []) 4 (size domain) _ bs e
+size-found (matrix i t) bs e = fixed-at (fix 2 1 ∷ fix 2 0 ∷ []) 4 (size (matrix i t)) _ bs e
+size-found (side n) bs e = fixed-at (fix 2 2 ∷ fix 2 0 ∷ []) 4 (size (side n)) _ bs e
+
+-- ---- the record
+
+-- a node whose record is bs, with type ty
+pub record Found (t : Table) (es : List Entry) (n : Node) (bs : List ℕ) (ty : ℕ) : Type 0 where
+  pub good : GoodNode t es n
+  pub same : bytes (placeOf es) n ≡ bs
+  pub type : typeOf (n .form) ≡ ty
+  pub long : size (n .form) ≡ length bs
+
+-- neither refusal is given
+both-pass : (a b : Bool) → firstOf ((not a, 26) ∷ (not b, 27) ∷ []) ≡ 0 → (a ≡ true) × (b ≡ true)
+both-pass true true e = (refl, refl)
+both-pass true false e = absurd (omega arith)
+both-pass false b e = absurd (omega arith)
+
+-- a record of a row that matches, with no fault, behind records with the entries es
+pub found : (t : Table) (b : ℕ) (es : List Entry) (bs : List ℕ) (rev ty : ℕ) (r : Row) → Rising b es → length es < 256 ^ 4 → Bytes bs
+    → rowOf t rev ty bs ≡ some r → sizeIn t bs ≡ length bs → recordFault (atPlace es) (some r) bs ≡ 0
+    → Found t es (nodeAt (ordinalOf es) (formIn r bs) bs) bs ty
+unfolding recordFault sound nodeAt bytes
+found t b es bs rev ty r rising few h e n z =
+    let f = formIn r bs in
+    let is = layout f in
+    let vs = fields is bs in
+    let (s, good) = both-pass (sound f bs) (refsGood (atPlace es) is vs) z in
+    let (fixed, ruled) = both-true (fixedOk is bs) (all (ranges f vs)) s in
+    let (type, col) = row-tests rev ty bs r (row-then rev ty bs t r e) in
+    let (row, within) = row-form r bs h col in
+    let own : tableFor f ≡ t = ap home row ∙ row-home rev ty bs t r e in
+    let long : size f ≡ length bs = sym (size-found f bs fixed) ∙ (rw (← own) at n) in
+    let wide : width is ≡ size f = width-layout f in
+    let fit : Fit is vs = fields-fit is bs (sane-layout f) h (omega arith) fixed in
+    let many : length vs ≡ arities is = fit-length is vs fit in
+    let ws = rename (ordinalOf es) is vs in
+    let kept = refs-kept (ordinalOf es) (placeOf es) (atPlace es) (atOrdinal es) (ordinal-zero b es rising) (place-zero es) (back es) is vs many good in
+    let fit′ : Fit is ws = fit-rename (ordinalOf es) (λ v. omega (arith, ordinal-below es v)) is vs fit in
+    let g : fieldsWith (ordinalOf es) is bs ≡ ws = fields-rename (ordinalOf es) is bs in
+    record {
+      good = record {
+        own = own;
+        within = within;
+        fit = rw g fit′;
+        ruled = rw (g, ranges-rename (ordinalOf es) f vs many, ruled);
+        refs = rw g (kept .0);
+      };
+      same = rw (g, lay-rename (placeOf es) is ws (fit-length is ws fit′), kept .1) (bytes-node f bs h (sym long) s);
+      type = type-for f ∙ (ap rowType row ∙ sym type);
+      long = long;
+    }

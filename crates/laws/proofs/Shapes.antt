@@ -1,0 +1,224 @@
+-- What a reader finds in the record of each form, by computation from its layout: its type, its size, its row and its form.
+use mathlib.Core.Path.{_≡_, refl, ap}
+use Prim.Native.Nat.{ℕ, zero, suc, _+_, _-_, _*_, _/_, _%_, _^_, _≤_, _<_}
+use mathlib.Core.List.{List, [], _∷_, _++_}
+use mathlib.Core.Bool.{Bool, true, false}
+use native.Mathlib.Omega.{arith}
+use native.Mathlib.Nat.{mul-le-mul}
+use lib.ListN.{length, take, drop, replicate, take-append-drop}
+use lib.Dec.{eqb, leb, ltb}
+use borrow.Author.Tests.{eq-eqb, le-leb}
+use Rattle.format.specs.Bytes.{pick, both, all, at, le, value, part}
+use Rattle.format.specs.Layout.{Item, fix, fld, two, to, orNone, arity, arities, layWith}
+use Rattle.format.specs.Table.{Table, pptt, srat, hmat, revision, frame, least}
+use Rattle.format.specs.Form.{Form, processor, cache, memory, acpi, pci, rintc, domain, matrix, side, size, typeOf, layout, ranges}
+use Rattle.format.specs.Row.{Row, processors, caches, memories, initiators, rintcs, domains, matrices, sides, home, rowType, column, matches, formIn}
+use Rattle.format.specs.Read.{typeIn, sizeIn}
+use Rattle.laws.specs.Rename.{rename}
+use Rattle.laws.proofs.Bytes.{value-le}
+use Rattle.laws.proofs.Lays.{rest-length}
+use Rattle.laws.proofs.Nodes.{length-record}
+
+-- the counts of a form are within their limits
+abbrev pub Within : Form → Type 0
+Within (processor n) = n ≤ 58
+Within cache = Unit
+Within memory = Unit
+Within acpi = Unit
+Within pci = Unit
+Within rintc = Unit
+Within domain = Unit
+Within (matrix i t) = (i ≤ 255) × (t ≤ 255)
+Within (side n) = n ≤ 65535
+
+-- the row that a form's record matches, and its table
+abbrev pub rowFor : Form → Row
+rowFor (processor n) = processors
+rowFor cache = caches
+rowFor memory = memories
+rowFor acpi = initiators
+rowFor pci = initiators
+rowFor rintc = rintcs
+rowFor domain = domains
+rowFor (matrix i t) = matrices
+rowFor (side n) = sides
+
+abbrev pub tableFor : Form → Table
+tableFor f = home (rowFor f)
+
+pub least-size : (f : Form) → least (tableFor f) ≤ size f
+least-size (processor n) = omega arith
+least-size cache = omega arith
+least-size memory = omega arith
+least-size acpi = omega arith
+least-size pci = omega arith
+least-size rintc = omega arith
+least-size domain = omega arith
+least-size (matrix i t) = omega arith
+least-size (side n) = omega arith
+
+square : (i t : ℕ) → i ≤ 255 → t ≤ 255 → i * t ≤ 255 * 255
+square i t h k = mul-le-mul h k
+
+pub size-below : (f : Form) → Within f → size f < 256 ^ 4
+size-below (processor n) w = omega arith
+size-below cache w = omega arith
+size-below memory w = omega arith
+size-below acpi w = omega arith
+size-below pci w = omega arith
+size-below rintc w = omega arith
+size-below domain w = omega arith
+size-below (matrix i t) w = omega (arith, square i t (w .0) (w .1))
+size-below (side n) w = omega arith
+
+pub type-for : (f : Form) → typeOf f ≡ rowType (rowFor f)
+type-for (processor n) = refl
+type-for cache = refl
+type-for memory = refl
+type-for acpi = refl
+type-for pci = refl
+type-for rintc = refl
+type-for domain = refl
+type-for (matrix i t) = refl
+type-for (side n) = refl
+
+module _ (g : ℕ → ℕ) where
+  pub type-in : (f : Form) (vs rest : List ℕ) → typeIn (tableFor f) (layWith g (layout f) vs ++ rest) ≡ typeOf f
+  unfolding layWith layout le value
+  type-in (processor n) vs rest = refl
+  type-in cache vs rest = refl
+  type-in memory vs rest = refl
+  type-in acpi vs rest = refl
+  type-in pci vs rest = refl
+  type-in rintc vs rest = refl
+  type-in domain vs rest = refl
+  type-in (matrix i t) vs rest = refl
+  type-in (side n) vs rest = refl
+
+  pub size-in : (f : Form) (vs rest : List ℕ) → Within f → sizeIn (tableFor f) (layWith g (layout f) vs ++ rest) ≡ size f
+  unfolding layWith layout le value part
+  size-in (processor n) vs rest w = omega arith
+  size-in cache vs rest w = refl
+  size-in memory vs rest w = refl
+  size-in acpi vs rest w = refl
+  size-in pci vs rest w = refl
+  size-in rintc vs rest w = refl
+  size-in domain vs rest w = refl
+  size-in (matrix i t) vs rest w = value-le 4 (size (matrix i t)) (size-below (matrix i t) w)
+  size-in (side n) vs rest w = value-le 4 (size (side n)) (size-below (side n) w)
+
+  count-i : (i t : ℕ) (vs : List ℕ) → i ≤ 255 → value (part (layWith g (layout (matrix i t)) vs) 12 4) ≡ i
+  unfolding layWith layout le value part
+  count-i i t vs h = value-le 4 i (omega arith)
+
+  count-t : (i t : ℕ) (vs : List ℕ) → t ≤ 255 → value (part (layWith g (layout (matrix i t)) vs) 16 4) ≡ t
+  unfolding layWith layout le value part
+  count-t i t vs h = value-le 4 t (omega arith)
+
+  count-n : (n : ℕ) (vs : List ℕ) → n ≤ 65535 → value (part (layWith g (layout (side n)) vs) 30 2) ≡ n
+  unfolding layWith layout le value part
+  count-n n vs h = value-le 2 n (omega arith)
+
+  handle-acpi : (vs : List ℕ) → at (layWith g (layout acpi) vs) 3 ≡ 0
+  unfolding layWith layout le
+  handle-acpi vs = refl
+
+  handle-pci : (vs : List ℕ) → at (layWith g (layout pci) vs) 3 ≡ 1
+  unfolding layWith layout le
+  handle-pci vs = refl
+
+  column-in : (f : Form) (vs : List ℕ) → Within f → column (rowFor f) (layWith g (layout f) vs) ≡ true
+  unfolding column
+  column-in (processor n) vs w =
+      rw (length-record g (processor n) vs, le-leb 20 (20 + 4 * n) (omega arith), le-leb (20 + 4 * n) 252 (omega arith), eq-eqb ((20 + 4 * n) % 4) 0 (omega arith))
+  column-in cache vs w = rw (length-record g cache vs)
+  column-in memory vs w = rw (length-record g memory vs)
+  column-in acpi vs w = rw (length-record g acpi vs)
+  column-in pci vs w = rw (length-record g pci vs)
+  column-in rintc vs w = rw (length-record g rintc vs)
+  column-in domain vs w = rw (length-record g domain vs)
+  column-in (matrix i t) vs w =
+      rw (length-record g (matrix i t) vs, count-i i t vs (w .0), count-t i t vs (w .1), le-leb 32 (size (matrix i t)) (omega arith), le-leb i 255 (w .0), le-leb t 255 (w .1))
+  column-in (side n) vs w = rw (length-record g (side n) vs, le-leb 32 (size (side n)) (omega arith))
+
+  pub row-in : (f : Form) (vs : List ℕ) → Within f → matches (revision (tableFor f)) (typeOf f) (layWith g (layout f) vs) (rowFor f) ≡ true
+  unfolding matches
+  row-in f vs w = rw (eq-eqb (revision (tableFor f)) (revision (tableFor f)) refl, eq-eqb (typeOf f) (rowType (rowFor f)) (type-for f), column-in f vs w)
+
+  pub form-in : (f : Form) (vs : List ℕ) → Within f → formIn (rowFor f) (layWith g (layout f) vs) ≡ f
+  unfolding formIn
+  form-in (processor n) vs w =
+      let e : (20 + 4 * n - 20) / 4 ≡ n = omega arith in
+      rw (length-record g (processor n) vs, e)
+  form-in cache vs w = refl
+  form-in memory vs w = refl
+  form-in acpi vs w = rw (handle-acpi vs)
+  form-in pci vs w = rw (handle-pci vs)
+  form-in rintc vs w = refl
+  form-in domain vs w = refl
+  form-in (matrix i t) vs w = rw (count-i i t vs (w .0), count-t i t vs (w .1))
+  form-in (side n) vs w = rw (count-n n vs w)
+
+-- ---- layouts without references
+
+abbrev pub Plain : List Item → Type 0
+Plain [] = Unit
+Plain (fix w v ∷ is) = Plain is
+Plain (fld w ∷ is) = Plain is
+Plain (two w k ∷ is) = Plain is
+Plain (to t ∷ is) = ⊥
+Plain (orNone t ∷ is) = ⊥
+
+pub plain-fld : (n w : ℕ) → Plain (replicate n (fld w))
+plain-fld zero w = tt
+plain-fld (suc n) w = plain-fld n w
+
+pub plain-append : (is js : List Item) → Plain is → Plain js → Plain (is ++ js)
+plain-append [] js p q = q
+plain-append (fix w v ∷ is) js p q = plain-append is js p q
+plain-append (fld w ∷ is) js p q = plain-append is js p q
+plain-append (two w k ∷ is) js p q = plain-append is js p q
+plain-append (to t ∷ is) js p q = p
+plain-append (orNone t ∷ is) js p q = p
+
+pub plain-matrix : (i t : ℕ) → Plain (replicate (i + t) (fld 4) ++ replicate (i * t) (fld 2))
+plain-matrix i t = plain-append (replicate (i + t) (fld 4)) (replicate (i * t) (fld 2)) (plain-fld (i + t) 4) (plain-fld (i * t) 2)
+
+module _ (g : ℕ → ℕ) where
+  rename-plain : (is : List Item) (vs : List ℕ) → Plain is → length vs ≡ arities is → rename g is vs ≡ vs
+  unfolding rename
+  rename-plain [] [] p l = refl
+  rename-plain [] (v ∷ vs) p l = absurd (omega arith)
+  rename-plain (fix w v ∷ is) vs p l = rename-plain is vs p (rest-length (fix w v) is vs l)
+  rename-plain (fld w ∷ is) vs p l = rw (rename-plain is (drop 1 vs) p (rest-length (fld w) is vs l)) (take-append-drop 1 vs)
+  rename-plain (two w k ∷ is) vs p l = rw (rename-plain is (drop 2 vs) p (rest-length (two w k) is vs l)) (take-append-drop 2 vs)
+  rename-plain (to t ∷ is) vs p l = absurd p
+  rename-plain (orNone t ∷ is) vs p l = absurd p
+
+  cache-ranges : (vs : List ℕ) → length vs ≡ 8 → ranges cache (rename g (layout cache) vs) ≡ ranges cache vs
+  unfolding ranges rename layout
+  cache-ranges [] l = absurd (omega arith)
+  cache-ranges (a ∷ []) l = absurd (omega arith)
+  cache-ranges (a ∷ b ∷ []) l = absurd (omega arith)
+  cache-ranges (a ∷ b ∷ c ∷ []) l = absurd (omega arith)
+  cache-ranges (a ∷ b ∷ c ∷ d ∷ []) l = absurd (omega arith)
+  cache-ranges (a ∷ b ∷ c ∷ d ∷ e ∷ []) l = absurd (omega arith)
+  cache-ranges (a ∷ b ∷ c ∷ d ∷ e ∷ f ∷ []) l = absurd (omega arith)
+  cache-ranges (a ∷ b ∷ c ∷ d ∷ e ∷ f ∷ h ∷ []) l = absurd (omega arith)
+  cache-ranges (a ∷ b ∷ c ∷ d ∷ e ∷ f ∷ h ∷ i ∷ vs) l = refl
+
+  plain-ranges : (f : Form) (vs : List ℕ) → Plain (layout f) → length vs ≡ arities (layout f) → ranges f (rename g (layout f) vs) ≡ ranges f vs
+  plain-ranges f vs p l = rw (rename-plain (layout f) vs p l)
+
+  -- the ranges look at no reference
+  pub ranges-rename : (f : Form) (vs : List ℕ) → length vs ≡ arities (layout f) → ranges f (rename g (layout f) vs) ≡ ranges f vs
+  unfolding ranges layout
+  ranges-rename (processor n) vs l = refl
+  ranges-rename cache vs l = cache-ranges vs l
+  ranges-rename memory vs l = plain-ranges memory vs tt l
+  ranges-rename acpi vs l = plain-ranges acpi vs tt l
+  ranges-rename pci vs l = plain-ranges pci vs tt l
+  ranges-rename rintc vs l = plain-ranges rintc vs tt l
+  ranges-rename domain vs l = refl
+  ranges-rename (matrix i t) vs l = plain-ranges (matrix i t) vs (plain-matrix i t) l
+  ranges-rename (side n) vs l = plain-ranges (side n) vs (plain-fld n 2) l

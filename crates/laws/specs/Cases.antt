@@ -1,0 +1,57 @@
+-- Document 01's cases C1 to C12, as one statement. Identity fields and all fields not named are 0.
+use Prim.Native.Nat.{ℕ, _+_, _*_}
+use mathlib.Core.List.{List, [], _∷_, _++_}
+use mathlib.Core.Option.{Option, none, some}
+use mathlib.Core.Path.{_≡_}
+use lib.ListN.{length, drop, replicate}
+use Rattle.format.specs.Bytes.{refused, given, at, le, part}
+use Rattle.format.specs.Table.{Table, pptt, srat, hmat, code, limit}
+use Rattle.format.specs.Kind.{Kind, Processor, Resource, Cache, Matrix, Cell}
+use Rattle.format.specs.Build.{build, table}
+use Rattle.format.specs.Normal.{call, each}
+use Rattle.format.specs.Read.{reading, read, readPart}
+use Rattle.format.specs.Out.{every}
+
+abbrev pub head : Table → List ℕ
+head t = 1 ∷ code t ∷ replicate 26 0
+
+-- a cache without fields, a processor, n times resource 1
+abbrev pub withResources : ℕ → List ℕ
+withResources n = head pptt ++ (call Cache (replicate 8 0) ++ (call Processor (0 ∷ 0 ∷ 0 ∷ []) ++ each Resource (replicate n 1)))
+
+-- an I by T matrix, and more records
+abbrev pub withMatrix : ℕ → ℕ → List ℕ → List ℕ
+withMatrix i t more = head hmat ++ (call Matrix (0 ∷ 0 ∷ 0 ∷ 0 ∷ i ∷ t ∷ []) ++ more)
+
+-- the recipe builds a table of this length, with this checksum
+abbrev pub Builds : List ℕ → ℕ → ℕ → Type 0
+Builds r n check = (build r n ≡ given n) × (length (table r) ≡ n) × (at (table r) 9 ≡ check)
+
+-- w bytes of the recipe's table at a place hold a number
+abbrev pub Holds : List ℕ → ℕ → ℕ → ℕ → Type 0
+Holds r p w v = part (table r) p w ≡ le w v
+
+-- the recipe is refused, however large the buffer
+abbrev pub Refuses : List ℕ → ℕ → ℕ → Type 0
+Refuses r n p = (room : ℕ) → build r room ≡ refused n p
+
+-- a PPTT of revision 4 with one cache record of 28 bytes; its sum is right
+abbrev pub newer : List ℕ
+newer = 80 ∷ 80 ∷ 84 ∷ 84 ∷ (le 4 64 ++ (4 ∷ 87 ∷ (replicate 26 0 ++ (1 ∷ 28 ∷ replicate 26 0))))
+
+pub record CheckedByHand : Type 0 where
+  pub c1 : Builds (head pptt) 36 145
+  pub c2 : Builds (head pptt ++ call Processor (0 ∷ 0 ∷ 7 ∷ [])) 56 98
+  pub c3 : Builds (withResources 1) 88 3
+  pub c3-resource : Holds (withResources 1) 84 4 36
+  pub c4 : Builds (head srat) 48 146
+  pub c5 : Builds (head hmat) 40 173
+  pub c6 : Holds (withResources 58) 65 1 252
+  pub c7 : Refuses (withResources 59) 7 (28 + 22 + 13 + 5 * 58)
+  pub c8 : Holds (withMatrix 2 3 []) 44 4 64
+  pub c8-cell : Holds (withMatrix 2 3 (call Cell (1 ∷ 0 ∷ 4660 ∷ []))) (40 + 58) 2 4660
+  pub c9 : Holds (withMatrix 255 255 []) 44 4 132122
+  pub c10 : Refuses [] 1 0
+  pub c11 : Refuses (head pptt ++ call Processor (0 ∷ 1 ∷ 0 ∷ [])) 6 28
+  pub c12 : read newer every 0 ≡ given (reading 1 1 36 28 none [])
+  pub c12-part : readPart newer every 0 ≡ drop 36 newer

@@ -1,0 +1,29 @@
+-- The settings of a matrix, as records of a recipe.
+use Prim.Native.Nat.{ℕ, _+_, _*_}
+use mathlib.Core.List.{List, [], _∷_}
+use Rattle.format.specs.Node.{Node}
+use Rattle.format.specs.Kind.{Initiator, Target, Cell}
+use Rattle.format.specs.Recipe.{added}
+
+pub data Setting : Type 0 where
+  initiator : ℕ → ℕ → Setting  -- index, number
+  target : ℕ → ℕ → Setting
+  cell : ℕ → ℕ → ℕ → Setting  -- initiator, target, number
+
+-- which field of an I by T matrix it sets
+abbrev pub spot : ℕ → ℕ → Setting → ℕ
+spot i t (initiator j v) = 4 + j
+spot i t (target j v) = 4 + i + j
+spot i t (cell j k v) = 4 + i + t + j * t + k
+
+-- the number that it sets the field to
+abbrev pub setTo : Setting → ℕ
+setTo (initiator j v) = v
+setTo (target j v) = v
+setTo (cell j k v) = v
+
+-- the nodes with the record of the setting
+abbrev pub apply : Setting → List Node → List Node
+apply (initiator j v) ns = added Initiator (j ∷ v ∷ []) ns
+apply (target j v) ns = added Target (j ∷ v ∷ []) ns
+apply (cell j k v) ns = added Cell (j ∷ k ∷ v ∷ []) ns

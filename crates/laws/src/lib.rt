@@ -1,0 +1,1 @@
+// No code: proofs/ holds what follows from the definitions of the crate format.
