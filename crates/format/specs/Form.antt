@@ -7,6 +7,7 @@ use lib.Dec.{eqb, leb, ltb}
 use Rattle.format.specs.Bytes.{pick, both, all, at, bits}
 use Rattle.format.specs.Layout.{Item, fix, fld, two, to, orNone}
 
+-- a form for each way a record is laid out
 pub data Form : Type 0 where
   processor : ℕ → Form  -- with n resources
   cache memory acpi pci rintc domain : Form
@@ -45,6 +46,7 @@ short f is = fix 1 (typeOf f) ∷ fix 1 (size f) ∷ is
 abbrev pub long : Form → List Item → List Item
 long f is = fix 2 (typeOf f) ∷ fix 2 0 ∷ fix 4 (size f) ∷ is
 
+-- the layout rows
 unfoldable pub layout : Form → List Item
 layout (processor n) =
     -- 2 zero, flags, parent, id, n, n offsets

@@ -7,9 +7,11 @@ use Rattle.format.specs.Bytes.{find}
 use Rattle.format.specs.Layout.{Item, fld, to, orNone}
 use Rattle.format.specs.Table.{Table, pptt, srat, hmat}
 
+-- the kinds but the head
 pub data Kind : Type 0 where
   Processor Resource Cache Memory Acpi Pci Rintc Domain Matrix Initiator Target Cell Side Handle : Kind
 
+-- the byte that names a kind
 abbrev pub kindNumber : Kind → ℕ
 kindNumber Processor = 16
 kindNumber Resource = 17

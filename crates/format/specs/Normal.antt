@@ -44,6 +44,7 @@ calls domain vs = call Domain vs
 calls (matrix i t) vs = call Matrix (take 4 vs ++ (i ∷ t ∷ [])) ++ settings i t (drop 4 vs)
 calls (side n) vs = call Side (take 3 vs) ++ each Handle (drop 3 vs)
 
+-- the records of all nodes, the oldest first
 unfoldable pub callsOf : List Node → List ℕ
 callsOf [] = []
 callsOf (n ∷ ns) = callsOf ns ++ calls (n .form) (n .values)
@@ -52,6 +53,7 @@ callsOf (n ∷ ns) = callsOf ns ++ calls (n .form) (n .values)
 abbrev pub headCall : Head → List ℕ
 headCall h = 1 ∷ code (h .table) ∷ h .identity
 
+-- the recipe that says just this
 unfoldable pub recipeOf : Meaning → List ℕ
 recipeOf m = headCall (m .head) ++ callsOf (m .nodes)
 

@@ -66,6 +66,7 @@ pub data Newest : Type 0 where
   aSide : ℕ → List ℕ → List Node → Newest
   other : Newest
 
+-- the node of this form and fields, in front of ns
 abbrev pub newestAs : Form → List ℕ → List Node → Newest
 newestAs (processor n) us ns = aProcessor n us ns
 newestAs cache us ns = other
@@ -77,6 +78,7 @@ newestAs domain us ns = other
 newestAs (matrix i t) us ns = aMatrix i t us ns
 newestAs (side n) us ns = aSide n us ns
 
+-- the first of the list
 abbrev pub newest : List Node → Newest
 newest [] = other
 newest (n ∷ ns) = newestAs (n .form) (n .values) ns
@@ -142,10 +144,12 @@ fault t ns k vs =
 
 -- ---- the whole recipe
 
+-- what a recipe says, and a table too
 pub record Meaning : Type 0 where
   pub head : Head
   pub nodes : List Node
 
+-- the meaning of a head and nodes
 abbrev pub means : Head → List Node → Meaning
 means h ns = record { head = h; nodes = ns }
 
@@ -161,6 +165,7 @@ run h q ns (cutOff p k) = refused 3 p
 run h q ns (called p k vs rest) =
     unless (fault (h .table) ns k vs) p (run h (since ns (added k vs ns) p q) (added k vs ns) rest)
 
+-- the table of a head's code
 abbrev pub tableOf : ℕ → Option Table
 tableOf c = find (λ t. eqb c (code t)) tables
 

@@ -9,9 +9,11 @@ use Rattle.format.specs.Bytes.{pick, both, all, find, at, value, part}
 use Rattle.format.specs.Table.{Table, pptt, srat, hmat, revision}
 use Rattle.format.specs.Form.{Form, processor, cache, memory, acpi, pci, rintc, domain, matrix, side}
 
+-- the rows of the table of layouts
 pub data Row : Type 0 where
   processors caches memories initiators rintcs domains matrices sides : Row
 
+-- their numbers
 abbrev pub rowNumber : Row → ℕ
 rowNumber processors = 0
 rowNumber caches = 1
@@ -22,6 +24,7 @@ rowNumber domains = 5
 rowNumber matrices = 6
 rowNumber sides = 7
 
+-- the rows of each table
 abbrev pub rows : Table → List Row
 rows pptt = processors ∷ caches ∷ []
 rows srat = memories ∷ initiators ∷ rintcs ∷ []
@@ -38,6 +41,7 @@ home domains = hmat
 home matrices = hmat
 home sides = hmat
 
+-- the type that the row names
 abbrev pub rowType : Row → ℕ
 rowType processors = 0
 rowType caches = 1

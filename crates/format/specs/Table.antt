@@ -3,9 +3,11 @@ use Prim.Native.Nat.{ℕ, _+_}
 use mathlib.Core.List.{List, [], _∷_}
 use Rattle.format.specs.Layout.{Item, fix, width}
 
+-- the tables that are built and read
 pub data Table : Type 0 where
   pptt srat hmat : Table
 
+-- all of them
 abbrev pub tables : List Table
 tables = pptt ∷ srat ∷ hmat ∷ []
 
@@ -21,6 +23,7 @@ sign pptt = 80 ∷ 80 ∷ 84 ∷ 84 ∷ []
 sign srat = 83 ∷ 82 ∷ 65 ∷ 84 ∷ []
 sign hmat = 72 ∷ 77 ∷ 65 ∷ 84 ∷ []
 
+-- the revision that is built, and that the rows are of
 abbrev pub revision : Table → ℕ
 revision pptt = 3
 revision srat = 3
@@ -64,6 +67,7 @@ pub record Frame : Type 0 where
   pub reserved : ℕ
   pub length : ℕ
 
+-- PPTT and SRAT: type 1, length 1; HMAT: type 2, reserved 2, length 4
 abbrev pub frame : Table → Frame
 frame pptt = record { type = 1; reserved = 0; length = 1 }
 frame srat = record { type = 1; reserved = 0; length = 1 }

@@ -1,6 +1,6 @@
 -- Numbers as bytes, parts of a list, a list laid over another, and sums: each law once, over the width and the place, by induction on the list or the width.
 -- Assumes nothing.
-use mathlib.Core.Path.{_≡_, refl, sym, ap, _∙_}
+use mathlib.Core.Path.{_≡_, refl, ap, _∙_}
 use Prim.Native.Nat.{ℕ, zero, suc, _+_, _-_, _*_, _/_, _%_, _^_, _≤_, _<_, min}
 use mathlib.Core.List.{List, [], _∷_, _++_, append-nil}
 use native.Mathlib.Nat.{pow-suc, pow-succ', div-add-mod, div-div-eq-div-mul, div-lt-iff-lt-mul, div-one, mul-assoc, mul-comm, zero-add, add-assoc, mul-zero, suc-add, zero-lt-suc, one-le-pow, mod-eq-of-lt}
@@ -154,6 +154,11 @@ over-over [] p xs ys = refl
 over-over (b ∷ bs) (suc p) xs ys = rw (suc-add, over-over bs p xs ys)
 over-over (b ∷ bs) zero [] ys = refl
 over-over (b ∷ bs) zero (x ∷ xs) ys = rw (zero-add) (rw (← over-over bs zero xs ys, zero-add))
+
+-- a call that lays one list behind what is laid already
+pub over-next : (bs : List ℕ) (p : ℕ) (xs os : List ℕ) (n : ℕ) (ys ps : List ℕ) → os ≡ over bs p xs → ps ≡ over os n ys → n ≡ p + length xs
+    → ps ≡ over bs p (xs ++ ys)
+over-next bs p xs os n ys ps e f h = rw (f, e, h, over-over)
 
 -- nothing to lay down, or nothing to lay it over
 pub over-none : (bs : List ℕ) (p : ℕ) (cs : List ℕ) → min (length cs) (length bs - p) ≡ 0 → over bs p cs ≡ bs

@@ -12,6 +12,7 @@ use Rattle.format.specs.Normal.{call, each}
 use Rattle.format.specs.Read.{reading, read, readPart}
 use Rattle.format.specs.Out.{every}
 
+-- the head's record
 abbrev pub head : Table → List ℕ
 head t = 1 ∷ code t ∷ replicate 26 0
 
@@ -39,6 +40,7 @@ Refuses r n p = (room : ℕ) → build r room ≡ refused n p
 abbrev pub newer : List ℕ
 newer = 80 ∷ 80 ∷ 84 ∷ 84 ∷ (le 4 64 ++ (4 ∷ 87 ∷ (replicate 26 0 ++ (1 ∷ 28 ∷ replicate 26 0))))
 
+-- the cases as document 01 lists them
 pub record CheckedByHand : Type 0 where
   pub c1 : Builds (head pptt) 36 145
   pub c2 : Builds (head pptt ++ call Processor (0 ∷ 0 ∷ 7 ∷ [])) 56 98

@@ -5,6 +5,7 @@ use Rattle.format.specs.Node.{Node}
 use Rattle.format.specs.Kind.{Initiator, Target, Cell}
 use Rattle.format.specs.Recipe.{added}
 
+-- a record of kind 50, 51 or 52
 pub data Setting : Type 0 where
   initiator : ℕ → ℕ → Setting  -- index, number
   target : ℕ → ℕ → Setting

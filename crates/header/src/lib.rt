@@ -1,0 +1,219 @@
+// What every table has: a rolling checksum, a signature, a front, and the header of 36 bytes.
+ghost use mathlib.Core.Path.{_≡_};
+ghost use Prim.Native.Nat.{ℕ, _+_, _%_, _^_, _<_};
+ghost use lib.ListN.{length};
+ghost use Rattle.format.specs.Bytes.{sum, over};
+ghost use Rattle.format.specs.Layout.{lay};
+ghost use Rattle.format.specs.Table.{sign, revision, tail, told, front, limit};
+ghost use Rattle.format.specs.Build.{checkOf};
+ghost use Rattle.header.specs.declared.TableHeader.{TableHeader};
+ghost use Rattle.header.specs.Header.{meant, identity, headerBytes, Sized, headerOf, summed};
+
+// No table is longer.
+pub const LIMIT: usize = 1048576;
+
+pub fn limit() -> usize
+    ensures { λ r. ⌜ r ≡ limit ⌝ }
+{
+    LIMIT
+}
+
+// Keeps track of a rolling sum of bytes, modulo 256, of which value() is the checksum.
+pub struct Checksum {
+    pub value: u8,
+}
+
+impl Checksum {
+    pub fn default() -> Self
+        ensures { λ r. ⌜ r .value ≡ 0 ⌝ }
+    {
+        Self { value: 0 }
+    }
+
+    pub fn append(self, data: &[u8]) -> Self
+        ensures { λ r. ⌜ r .value ≡ (self .value + sum (now («data» .entry))) % 256 ⌝ }
+    {
+        self.add(field::u8sum(data))
+    }
+
+    pub fn delete(self, data: &[u8]) -> Self
+        ensures { λ r. ⌜ r .value ≡ (self .value + checkOf (sum (now («data» .entry)))) % 256 ⌝ }
+    {
+        self.sub(field::u8sum(data))
+    }
+
+    pub fn add(self, data: u8) -> Self
+        ensures { λ r. ⌜ r .value ≡ (self .value + «data») % 256 ⌝ }
+    {
+        Self {
+            value: std::num::wrapping_add_u8(self.value, data),
+        }
+    }
+
+    pub fn sub(self, data: u8) -> Self
+        ensures { λ r. ⌜ r .value ≡ (self .value + checkOf «data») % 256 ⌝ }
+    {
+        Self {
+            value: std::num::wrapping_sub_u8(self.value, data),
+        }
+    }
+
+    pub fn raw_value(self) -> u8
+        ensures { λ r. ⌜ r ≡ self .value ⌝ }
+    {
+        self.value
+    }
+
+    pub fn value(self) -> u8
+        ensures { λ r. ⌜ r ≡ checkOf (self .value) ⌝ }
+    {
+        std::num::wrapping_add_u8(255 - self.value, 1)
+    }
+}
+
+pub enum Table {
+    Pptt,
+    Srat,
+    Hmat,
+}
+
+impl Table {
+    pub const PPTT_FRONT: usize = 36;
+
+    pub const SRAT_FRONT: usize = 48;
+
+    pub const HMAT_FRONT: usize = 40;
+
+    pub const PPTT_REVISION: u8 = 3;
+
+    pub const SRAT_REVISION: u8 = 3;
+
+    pub const HMAT_REVISION: u8 = 1;
+
+    pub fn signature(self) -> [u8; 4]
+        ensures { λ r. ⌜ r ≡ sign (meant self) ⌝ }
+    {
+        match self {
+            Table::Pptt => *b"PPTT",
+            Table::Srat => *b"SRAT",
+            Table::Hmat => *b"HMAT",
+        }
+    }
+
+    pub fn revision(self) -> u8
+        ensures { λ r. ⌜ r ≡ revision (meant self) ⌝ }
+    {
+        match self {
+            Table::Pptt => Self::PPTT_REVISION,
+            Table::Srat => Self::SRAT_REVISION,
+            Table::Hmat => Self::HMAT_REVISION,
+        }
+    }
+
+    // The length of header and front.
+    pub fn front(self) -> usize
+        ensures { λ r. ⌜ r ≡ front (meant self) ⌝ }
+    {
+        match self {
+            Table::Pptt => Self::PPTT_FRONT,
+            Table::Srat => Self::SRAT_FRONT,
+            Table::Hmat => Self::HMAT_FRONT,
+        }
+    }
+}
+
+// Standard header of the tables.
+pub struct TableHeader {
+    pub signature: [u8; 4],
+    pub length: u32,
+    pub revision: u8,
+    pub checksum: u8,
+    pub oem_id: [u8; 6],
+    pub oem_table_id: [u8; 8],
+    pub oem_revision: u32,
+    pub creator_id: [u8; 4],
+    pub creator_revision: [u8; 4],
+}
+
+impl TableHeader {
+    pub const LEN: usize = 36;
+
+    pub fn len() -> usize
+        ensures { λ r. ⌜ ((h : TableHeader) → Sized h → r ≡ length (headerBytes h)) ⌝ }
+    {
+        Self::LEN
+    }
+
+    // The header of a table of some length, before its checksum is known.
+    pub fn new(
+        table: Table,
+        length: u32,
+        oem_id: [u8; 6],
+        oem_table_id: [u8; 8],
+        oem_revision: u32,
+        creator_id: [u8; 4],
+        creator_revision: [u8; 4],
+    ) -> Self
+        ensures { λ r. ⌜ r ≡ headerOf table «length» «oem_id» «oem_table_id» «oem_revision» «creator_id» «creator_revision» ⌝ }
+    {
+        let signature = table.signature();
+        Self {
+            signature,
+            length,
+            revision: table.revision(),
+            checksum: 0,
+            oem_id,
+            oem_table_id,
+            oem_revision,
+            creator_id,
+            creator_revision,
+        }
+    }
+
+    pub fn checksum(mut self, checksum: u8) -> Self
+        ensures { λ r. ⌜ r ≡ summed self checksum ⌝ }
+    {
+        self.checksum = checksum;
+        self
+    }
+
+    // Writes what a head gives of the header.
+    fn put_identity(self, out: &mut [u8], at: usize)
+        requires { ⌜ at + 22 < 2 ^ 64 ⌝ }
+        ensures { λ _. ⌜ now (out .exit) ≡ over (now (out .entry)) at (identity self) ⌝ }
+    {
+        field::copy(out, at, &self.oem_id);
+        field::copy(out, at + 6, &self.oem_table_id);
+        field::put_u32(out, at + 14, self.oem_revision);
+        field::copy(out, at + 18, &self.creator_id);
+        field::copy(out, at + 22, &self.creator_revision);
+    }
+
+    // Writes the header.
+    pub fn put(self, out: &mut [u8], at: usize)
+        ensures { λ _. ⌜ now (out .exit) ≡ over (now (out .entry)) at (headerBytes self) ⌝ }
+    {
+        if out.len() <= at {
+            return;
+        }
+        let bytes = [self.revision, self.checksum];
+        field::copy(out, at, &self.signature);
+        field::put_u32(out, at + 4, self.length);
+        field::copy(out, at + 8, &bytes);
+        self.put_identity(out, at + 10);
+    }
+}
+
+// Writes what follows the header; none of it depends on the number of records.
+pub fn put_front(table: Table, out: &mut [u8])
+    ensures { λ _. ⌜ ((n : ℕ) → now (out .exit) ≡ over (now (out .entry)) 36 (lay (tail (meant table)) (told (meant table) n))) ⌝ }
+{
+    match table {
+        Table::Pptt => {}
+        Table::Srat => {
+            field::put_u32(out, TableHeader::LEN, 1);
+            field::put_u64(out, TableHeader::LEN + 4, 0);
+        }
+        Table::Hmat => field::put_u32(out, TableHeader::LEN, 0),
+    }
+}
