@@ -10,7 +10,7 @@ use Rattle.format.specs.Build.{header}
 use Rattle.laws.proofs.Bytes.{length-le}
 use Rattle.header.specs.declared.Table.{Table}
 use Rattle.header.specs.declared.TableHeader.{TableHeader}
-use Rattle.header.specs.Header.{meant, identity, headerBytes, Sized, headerOf, summed}
+use Rattle.header.specs.Header.{meant, identity, headerBytes, Sized, headerOf, withChecksum}
 
 pub length-header : (h : TableHeader) → Sized h → length (headerBytes h) ≡ 36
 unfolding headerBytes identity
@@ -18,7 +18,7 @@ length-header h s = simp (length-append, length-le) (omega arith)
 
 -- a header of `new` and `checksum`, and then what `put_front` writes, is the front of the format
 pub header-made : (t : Table) (len : ℕ) (oem oemTable : List ℕ) (oemRevision : ℕ) (creator creatorRevision : List ℕ) (check n : ℕ)
-    → let h : TableHeader = summed (headerOf t len oem oemTable oemRevision creator creatorRevision) check in
+    → let h : TableHeader = withChecksum (headerOf t len oem oemTable oemRevision creator creatorRevision) check in
     header (headOf (meant t) (identity h)) n len check ≡ headerBytes h ++ lay (tail (meant t)) (told (meant t) n)
 unfolding header headerBytes
 header-made t len oem oemTable oemRevision creator creatorRevision check n = simp append-assoc

@@ -10,6 +10,7 @@ use Rattle.header.specs.declared.Table.{Table}
 use Rattle.header.specs.declared.Table.the-variants.{Pptt, Srat, Hmat}
 use Rattle.header.specs.declared.TableHeader.{TableHeader}
 
+-- a table as the format has it
 -- the table that a variant stands for
 abbrev pub meant : Table → format.Table
 meant Pptt = pptt
@@ -35,9 +36,28 @@ pub record Sized (h : TableHeader) : Type 0 where
 -- the header of a table of n bytes, before its checksum is known
 abbrev pub headerOf : Table → ℕ → List ℕ → List ℕ → ℕ → List ℕ → List ℕ → TableHeader
 headerOf t n oem oemTable oemRevision creator creatorRevision =
-    record { signature = sign (meant t); length = n; revision = revision (meant t); checksum = 0; «oem_id» = oem; «oem_table_id» = oemTable; «oem_revision» = oemRevision; «creator_id» = creator; «creator_revision» = creatorRevision }
+    record {
+      signature = sign (meant t);
+      length = n;
+      revision = revision (meant t);
+      checksum = 0;
+      «oem_id» = oem;
+      «oem_table_id» = oemTable;
+      «oem_revision» = oemRevision;
+      «creator_id» = creator;
+      «creator_revision» = creatorRevision;
+    }
 
--- the same header with another checksum
-abbrev pub summed : TableHeader → ℕ → TableHeader
-summed h c =
-    record { signature = h .signature; length = h .length; revision = h .revision; checksum = c; «oem_id» = h .«oem_id»; «oem_table_id» = h .«oem_table_id»; «oem_revision» = h .«oem_revision»; «creator_id» = h .«creator_id»; «creator_revision» = h .«creator_revision» }
+abbrev pub withChecksum : TableHeader → ℕ → TableHeader
+withChecksum h c =
+    record {
+      signature = h .signature;
+      length = h .length;
+      revision = h .revision;
+      checksum = c;
+      «oem_id» = h .«oem_id»;
+      «oem_table_id» = h .«oem_table_id»;
+      «oem_revision» = h .«oem_revision»;
+      «creator_id» = h .«creator_id»;
+      «creator_revision» = h .«creator_revision»;
+    }

@@ -7,7 +7,7 @@ ghost use Rattle.format.specs.Layout.{lay};
 ghost use Rattle.format.specs.Table.{sign, revision, tail, told, front, limit};
 ghost use Rattle.format.specs.Build.{checkOf};
 ghost use Rattle.header.specs.declared.TableHeader.{TableHeader};
-ghost use Rattle.header.specs.Header.{meant, identity, headerBytes, Sized, headerOf, summed};
+ghost use Rattle.header.specs.Header.{meant, identity, headerBytes, Sized, headerOf, withChecksum};
 
 // No table is longer.
 pub const LIMIT: usize = 1048576;
@@ -30,18 +30,21 @@ impl Checksum {
         Self { value: 0 }
     }
 
+    // The sum with bytes added.
     pub fn append(self, data: &[u8]) -> Self
         ensures { λ r. ⌜ r .value ≡ (self .value + sum (now («data» .entry))) % 256 ⌝ }
     {
         self.add(field::u8sum(data))
     }
 
+    // The sum with bytes taken away.
     pub fn delete(self, data: &[u8]) -> Self
         ensures { λ r. ⌜ r .value ≡ (self .value + checkOf (sum (now («data» .entry)))) % 256 ⌝ }
     {
         self.sub(field::u8sum(data))
     }
 
+    // The same for one byte.
     pub fn add(self, data: u8) -> Self
         ensures { λ r. ⌜ r .value ≡ (self .value + «data») % 256 ⌝ }
     {
@@ -58,12 +61,14 @@ impl Checksum {
         }
     }
 
+    // The sum itself.
     pub fn raw_value(self) -> u8
         ensures { λ r. ⌜ r ≡ self .value ⌝ }
     {
         self.value
     }
 
+    // What the byte of the checksum has to be.
     pub fn value(self) -> u8
         ensures { λ r. ⌜ r ≡ checkOf (self .value) ⌝ }
     {
@@ -71,6 +76,7 @@ impl Checksum {
     }
 }
 
+// The tables that are built and read.
 pub enum Table {
     Pptt,
     Srat,
@@ -154,7 +160,7 @@ impl TableHeader {
         creator_id: [u8; 4],
         creator_revision: [u8; 4],
     ) -> Self
-        ensures { λ r. ⌜ r ≡ headerOf table «length» «oem_id» «oem_table_id» «oem_revision» «creator_id» «creator_revision» ⌝ }
+        ensures { λ r. ⌜ r ≡ headerOf table length «oem_id» «oem_table_id» «oem_revision» «creator_id» «creator_revision» ⌝ }
     {
         let signature = table.signature();
         Self {
@@ -170,8 +176,9 @@ impl TableHeader {
         }
     }
 
+    // The same header with its checksum set.
     pub fn checksum(mut self, checksum: u8) -> Self
-        ensures { λ r. ⌜ r ≡ summed self checksum ⌝ }
+        ensures { λ r. ⌜ r ≡ withChecksum self checksum ⌝ }
     {
         self.checksum = checksum;
         self

@@ -1,5 +1,4 @@
 -- Numbers as bytes, parts of a list, a list laid over another, and sums: each law once, over the width and the place, by induction on the list or the width.
--- Assumes nothing.
 use mathlib.Core.Path.{_≡_, refl, ap, _∙_}
 use Prim.Native.Nat.{ℕ, zero, suc, _+_, _-_, _*_, _/_, _%_, _^_, _≤_, _<_, min}
 use mathlib.Core.List.{List, [], _∷_, _++_, append-nil}
@@ -147,13 +146,24 @@ length-over (b ∷ bs) (suc p) cs = ap suc (length-over bs p cs)
 length-over (b ∷ bs) zero [] = refl
 length-over (b ∷ bs) zero (c ∷ cs) = ap suc (length-over bs zero cs)
 
--- one list laid behind another
-pub over-over : (bs : List ℕ) (p : ℕ) (xs ys : List ℕ) → over (over bs p xs) (p + length xs) ys ≡ over bs p (xs ++ ys)
+-- one less on each side of a minimum
+peel : (a b m : ℕ) → min (suc a) (suc m - 0) ≡ min (suc b) (suc m - 0) → min a (m - 0) ≡ min b (m - 0)
+peel a b m h = omega arith
+
+-- one list laid behind another, or behind what fits of it
+pub over-behind : (bs : List ℕ) (p : ℕ) (xs ys : List ℕ) (n : ℕ) → min n (length bs - p) ≡ min (length xs) (length bs - p)
+    → over (over bs p xs) (p + n) ys ≡ over bs p (xs ++ ys)
 unfolding over
-over-over [] p xs ys = refl
-over-over (b ∷ bs) (suc p) xs ys = rw (suc-add, over-over bs p xs ys)
-over-over (b ∷ bs) zero [] ys = refl
-over-over (b ∷ bs) zero (x ∷ xs) ys = rw (zero-add) (rw (← over-over bs zero xs ys, zero-add))
+over-behind [] p xs ys n e = refl
+over-behind (b ∷ bs) (suc p) xs ys n e = rw (suc-add, over-behind bs p xs ys n (omega arith))
+over-behind (b ∷ bs) zero [] ys n e = let z : 0 + n ≡ 0 = omega arith in rw z
+over-behind (b ∷ bs) zero (x ∷ xs) ys zero e = absurd (omega arith)
+over-behind (b ∷ bs) zero (x ∷ xs) ys (suc n) e =
+    let s : 0 + suc n ≡ suc (0 + n) = omega arith in
+    rw (s, over-behind bs zero xs ys n (peel n (length xs) (length bs) e))
+
+pub over-over : (bs : List ℕ) (p : ℕ) (xs ys : List ℕ) → over (over bs p xs) (p + length xs) ys ≡ over bs p (xs ++ ys)
+over-over bs p xs ys = over-behind bs p xs ys (length xs) refl
 
 -- a call that lays one list behind what is laid already
 pub over-next : (bs : List ℕ) (p : ℕ) (xs os : List ℕ) (n : ℕ) (ys ps : List ℕ) → os ≡ over bs p xs → ps ≡ over os n ys → n ≡ p + length xs
@@ -190,16 +200,6 @@ over-turn bs p i c cs ds e = rw (e, over-one, ← add-assoc p i 1) (over-over bs
 pub over-cut : (bs : List ℕ) (p : ℕ) (xs ys : List ℕ) → length bs ≤ p + length xs → over bs p (xs ++ ys) ≡ over bs p xs
 over-cut bs p xs ys h = rw (← over-over, over-past (over bs p xs) (p + length xs) ys (rw length-over h))
 
--- one list laid behind what fits of another
-pub over-behind : (bs : List ℕ) (p : ℕ) (xs ys : List ℕ) (n : ℕ) → n ≡ min (length xs) (length bs - p) → over (over bs p xs) (p + n) ys ≡ over bs p (xs ++ ys)
-unfolding over
-over-behind [] p xs ys n e = refl
-over-behind (b ∷ bs) (suc p) xs ys n e = rw (suc-add, over-behind bs p xs ys n (omega arith))
-over-behind (b ∷ bs) zero [] ys n e = let z : 0 + n ≡ 0 = omega arith in rw z
-over-behind (b ∷ bs) zero (x ∷ xs) ys n e =
-    let s : 0 + n ≡ suc (0 + (n - 1)) = omega arith in
-    rw (s, over-behind bs zero xs ys (n - 1) (omega arith))
-
 -- where all of it fits, the rest stays
 pub over-fits : (bs : List ℕ) (p : ℕ) (cs : List ℕ) → p + length cs ≤ length bs → over bs p cs ≡ take p bs ++ (cs ++ drop (p + length cs) bs)
 unfolding over
@@ -233,17 +233,23 @@ value-padded xs p n w h = padded-take (drop p xs) n w h
 
 -- ---- numbers one behind the other
 
--- a turn of a loop over them
-pub join-turn : (ws vs : List ℕ) (i : ℕ) → i < length ws → i < length vs
-    → join (drop i ws) (drop i vs) ≡ le (at ws i) (at vs i) ++ join (drop (i + 1) ws) (drop (i + 1) vs)
+-- a turn of a loop that lays them down: the first, and then the others behind what fits of it
+pub join-turn : (bs ws vs os : List ℕ) (p i n : ℕ) → i < length ws → i < length vs → os ≡ over bs p (le (at ws i) (at vs i)) → n ≡ min (at ws i) (length bs - p)
+    → over os (p + n) (join (drop (i + 1) ws) (drop (i + 1) vs)) ≡ over bs p (join (drop i ws) (drop i vs))
 unfolding join
-join-turn ws vs i h k = rw (drop-turn ws i h, drop-turn vs i k)
+join-turn bs ws vs os p i n h k e f =
+    let l : length (le (at ws i) (at vs i)) ≡ at ws i = length-le (at ws i) (at vs i) in
+    rw (e, over-behind bs p (le (at ws i) (at vs i)) (join (drop (i + 1) ws) (drop (i + 1) vs)) n (omega arith), drop-turn ws i h, drop-turn vs i k)
 
-pub join-none : (ws vs : List ℕ) → min (length vs) (length ws) ≡ 0 → join ws vs ≡ []
+join-none : (ws vs : List ℕ) → min (length vs) (length ws) ≡ 0 → join ws vs ≡ []
 unfolding join
 join-none [] vs h = refl
 join-none (w ∷ ws) [] h = refl
 join-none (w ∷ ws) (v ∷ vs) h = absurd (omega arith)
+
+pub join-end : (bs ws vs : List ℕ) (p i : ℕ) → min (length vs) (length ws) ≤ i → over bs p (join (drop i ws) (drop i vs)) ≡ bs
+join-end bs ws vs p i h =
+    rw (join-none (drop i ws) (drop i vs) (simp length-drop (omega arith)), over-none bs p [] (omega arith))
 
 -- ---- sums
 

@@ -18,7 +18,6 @@ returns c =
     let g = f .before .before .before .before in
     let h = g .before .before .before .before .before .before .before in
     let s = h .before .before .before .before .before .before in
-    let good = s .good in
     let l : length (s .args .t1 .«oem_id») ≡ 6 = search needs in
     let m : length (s .args .t1 .«oem_table_id») ≡ 8 = search needs in
     let n : length (s .args .t1 .«creator_id») ≡ 4 = search needs in
