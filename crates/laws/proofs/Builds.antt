@@ -17,7 +17,7 @@ use Rattle.format.specs.Recipe.{Calls, done, badKind, cutOff, called, cutAs, sk
 use Rattle.format.specs.Build.{tableFrom}
 use Rattle.format.specs.Out.{meaningOf}
 use Rattle.laws.proofs.Bytes.{bytes-drop, length-part}
-use Rattle.laws.proofs.Finds.{All, found-in, then-given, or-given, unless-given}
+use Rattle.laws.proofs.Finds.{All, found-in, none-first, then-given, or-given, unless-given}
 use Rattle.laws.proofs.Lays.{Fit, Sane, fields-fit}
 use Rattle.laws.proofs.Good.{Good}
 use Rattle.laws.proofs.Heads.{read-built}
@@ -122,18 +122,13 @@ pub record Means (m : Meaning) : Type 0 where
   pub good : Good (m .head .table) (m .nodes)
   pub short : front (m .head .table) + sizes (m .nodes) ≤ limit
 
-two-tests : (a b : Bool) → firstOf ((a, 1) ∷ (b, 3) ∷ []) ≡ 0 → (a ≡ false) × (b ≡ false)
-two-tests true b e = absurd (omega arith)
-two-tests false true e = absurd (omega arith)
-two-tests false false e = (refl, refl)
-
 -- the head of a recipe that has one
 pub headed-given : (r : List ℕ) (h : Head) → headed r ≡ given h → (h ≡ headOf (h .table) (h .identity)) × (length (h .identity) ≡ 26)
 unfolding headed
 headed-given r h e =
-    let faults = firstOf ((not (eqb (at r 0) 1), 1) ∷ (ltb (length r) 28, 3) ∷ []) in
-    let (z, d) = unless-given faults 0 (andThen (orRefused 5 0 (tableOf (at r 1))) (λ t. given (headOf t (part r 2 26)))) e in
-    let n : 28 ≤ length r = ltb-false (length r) 28 (two-tests (not (eqb (at r 0) 1)) (ltb (length r) 28) z .1) in
+    let tests : List (Bool × ℕ) = (not (eqb (at r 0) 1), 1) ∷ (ltb (length r) 28, 3) ∷ [] in
+    let (z, d) = unless-given (firstOf tests) 0 (andThen (orRefused 5 0 (tableOf (at r 1))) (λ t. given (headOf t (part r 2 26)))) e in
+    let n : 28 ≤ length r = ltb-false (length r) 28 (none-first tests (search arith) z .1 .0) in
     let (t, o, f) = then-given (orRefused 5 0 (tableOf (at r 1))) (λ t. given (headOf t (part r 2 26))) d in
     let y : headOf t (part r 2 26) ≡ h = cc in
     rw (← y) (refl, length-part r 2 26 (omega arith))

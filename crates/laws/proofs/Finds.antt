@@ -8,7 +8,7 @@ use native.Mathlib.Omega.{arith}
 use lib.ListN.{getElem?}
 use lib.Dec.{eqb, lit≤}
 use borrow.Author.Tests.{eqb-true}
-use Rattle.format.specs.Bytes.{pick, find, Answer, refused, given, andThen, orRefused, unless}
+use Rattle.format.specs.Bytes.{pick, firstOf, find, Answer, refused, given, andThen, orRefused, unless}
 
 -- ---- lists
 
@@ -52,6 +52,15 @@ pub at-map : {A B : Type 0} (f : A → B) (xs : List A) (n : ℕ) → getElem? (
 at-map f [] n = refl
 at-map f (x ∷ xs) zero = refl
 at-map f (x ∷ xs) (suc n) = at-map f xs n
+
+-- where no number comes first, no test is true
+pub none-first : (ts : List (Bool × ℕ)) → All (λ t. 0 < t .1) ts → firstOf ts ≡ 0 → All (λ t. t .0 ≡ false) ts
+none-first [] a e = tt
+none-first (t ∷ ts) a e = split (t .0) refl (none-first ts (a .1)) e
+  where
+    split : (b : Bool) → t .0 ≡ b → (firstOf ts ≡ 0 → All (λ t. t .0 ≡ false) ts) → pick b (t .1) (firstOf ts) ≡ 0 → All (λ t. t .0 ≡ false) (t ∷ ts)
+    split true q ih e = absurd (let l : 0 < t .1 = a .0 in omega arith)
+    split false q ih e = (q, ih e)
 
 -- ---- answers
 

@@ -9,7 +9,7 @@ use native.Mathlib.Nat.{pow-le-pow-right, zero-lt-suc, lt-of-lt-of-le}
 use lib.ListN.{length, take, drop, replicate, length-take}
 use lib.Seq.{drop-drop}
 use lib.Dec.{eqb, leb}
-use borrow.Author.Tests.{eqb-true, leb-true}
+use borrow.Author.Tests.{eqb-true, leb-true, not-false}
 use Rattle.format.specs.Bytes.{pick, all, firstOf, Bytes, at, value, part}
 use Rattle.format.specs.Layout.{Item, fix, wide, arities, isFixed, width, fieldsWith, fields, fixedOk, refsGood}
 use Rattle.format.specs.Table.{Table, revision}
@@ -19,6 +19,7 @@ use Rattle.format.specs.Node.{Node, bytes, nodeAt, Entry, atPlace, atOrdinal, p
 use Rattle.format.specs.Read.{sizeIn, sound, recordFault}
 use Rattle.laws.specs.Rename.{rename}
 use Rattle.laws.proofs.Bytes.{value-lt, bytes-take, bytes-drop}
+use Rattle.laws.proofs.Finds.{none-first}
 use Rattle.laws.proofs.Lays.{both-true, Fit, fit-length, SaneItem, Sane, fields-fit, fields-rename, lay-rename, fit-rename}
 use Rattle.laws.proofs.Nodes.{width-layout, bytes-node}
 use Rattle.laws.proofs.Links.{Rising, ordinal-below, back, place-zero, ordinal-zero, refs-kept}
@@ -116,12 +117,6 @@ pub record Found (t : Table) (es : List Entry) (n : Node) (bs : List ℕ) (ty : 
   pub type : typeOf (n .form) ≡ ty
   pub long : size (n .form) ≡ length bs
 
--- neither refusal is given
-both-pass : (a b : Bool) → firstOf ((not a, 26) ∷ (not b, 27) ∷ []) ≡ 0 → (a ≡ true) × (b ≡ true)
-both-pass true true e = (refl, refl)
-both-pass true false e = absurd (omega arith)
-both-pass false b e = absurd (omega arith)
-
 -- a record of a row that matches, with no fault, behind records with the entries es
 pub found : (t : Table) (b : ℕ) (es : List Entry) (bs : List ℕ) (rev ty : ℕ) (r : Row) → Rising b es → length es < 256 ^ 4 → Bytes bs
     → rowOf t rev ty bs ≡ some r → sizeIn t bs ≡ length bs → recordFault (atPlace es) (some r) bs ≡ 0
@@ -131,7 +126,9 @@ found t b es bs rev ty r rising few h e n z =
     let f = formIn r bs in
     let is = layout f in
     let vs = fields is bs in
-    let (s, good) = both-pass (sound f bs) (refsGood (atPlace es) is vs) z in
+    let (a, (c, end)) = none-first ((not (sound f bs), 26) ∷ (not (refsGood (atPlace es) is vs), 27) ∷ []) (search arith) z in
+    let s = not-false (sound f bs) a in
+    let good = not-false (refsGood (atPlace es) is vs) c in
     let (fixed, ruled) = both-true (fixedOk is bs) (all (ranges f vs)) s in
     let (type, col) = row-tests rev ty bs r (row-then rev ty bs t r e) in
     let (row, within) = row-form r bs h col in

@@ -14,6 +14,7 @@ use Rattle.format.specs.Form.{Form, processor, cache, memory, acpi, pci, rintc,
 use Rattle.format.specs.Node.{Node, node, Entry, sizes, starts, atOrdinal}
 use Rattle.format.specs.Kind.{Kind, Processor, Resource, Cache, Memory, Acpi, Pci, Rintc, Domain, Matrix, Initiator, Target, Cell, Side, Handle, body}
 use Rattle.format.specs.Recipe.{Step, Newest, aProcessor, aMatrix, aSide, other, newestAs, newest, resource, handle, setting, unset, step, added, fault}
+use Rattle.laws.proofs.Finds.{none-first}
 use Rattle.laws.proofs.Lays.{Fit, FitItem, both-true, fit-length}
 use Rattle.laws.proofs.Shapes.{size-below, plain-fld, plain-matrix}
 use Rattle.laws.proofs.Fits.{second, third, fix-fit, zero-fit, fld-fit, wider, fit-append, good-append, replicate-snoc, plain-good, fit-same, set-front, set-behind}
@@ -28,26 +29,14 @@ pub record Passed (t : Table) (ns : List Node) (k : Kind) (vs : List ℕ) : Type
   pub room : step k vs ns .full ≡ false
   pub short : front t + sizes (added k vs ns) ≤ limit
 
-none-of : (a b c d e : Bool) → firstOf ((a, 4) ∷ (b, 5) ∷ (c, 6) ∷ (d, 7) ∷ (e, 8) ∷ []) ≡ 0 → (a ≡ false) × (b ≡ false) × (c ≡ false) × (d ≡ false) × (e ≡ false)
-none-of true b c d e h = absurd (omega arith)
-none-of false true c d e h = absurd (omega arith)
-none-of false false true d e h = absurd (omega arith)
-none-of false false false true e h = absurd (omega arith)
-none-of false false false false true h = absurd (omega arith)
-none-of false false false false false h = (refl, refl, refl, refl, refl)
-
 pub passed : (t : Table) (ns : List Node) (k : Kind) (vs : List ℕ) → fault t ns k vs ≡ 0 → Passed t ns k vs
 unfolding fault
 passed t ns k vs h =
     let s = step k vs ns in
-    let p = none-of _ _ _ _ _ h in
-    record {
-      place = not-false (s .placed) (p .0);
-      field = not-false (all (s .ranges)) (p .1);
-      refs = not-false (refsGood (atOrdinal (starts t (s .earlier))) (body k) vs) (p .2);
-      room = p .3;
-      short = ltb-false limit (front t + sizes (s .nodes)) (p .4);
-    }
+    let good = refsGood (atOrdinal (starts t (s .earlier))) (body k) vs in
+    let n = front t + sizes (s .nodes) in
+    let (a, (b, (c, (d, (e, end))))) = none-first ((not (s .placed), 4) ∷ (not (all (s .ranges)), 5) ∷ (not good, 6) ∷ (s .full, 7) ∷ (ltb limit n, 8) ∷ []) (search arith) h in
+    record { place = not-false (s .placed) a; field = not-false (all (s .ranges)) b; refs = not-false good c; room = d; short = ltb-false limit n e }
 
 pub no-fault : (t : Table) (ns : List Node) (k : Kind) (vs : List ℕ) → Passed t ns k vs → fault t ns k vs ≡ 0
 unfolding fault

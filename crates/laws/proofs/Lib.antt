@@ -1,4 +1,5 @@
 pub mod Bytes
+pub mod Over
 pub mod Finds
 pub mod Lays
 pub mod Offsets

@@ -20,7 +20,7 @@ use Rattle.format.specs.Build.{records, header, checkOf, summed, tableFrom, len
 use Rattle.format.specs.Read.{signed, lengthIn, own, headFault, judgeHead, frames, Seen, walk, walked}
 use Rattle.format.specs.Out.{every, nodesFrom, headIn, outOf, meaningOf}
 use Rattle.laws.proofs.Bytes.{le-value, bytes-take, bytes-drop, bytes-at, bytes-part, part-take, length-part}
-use Rattle.laws.proofs.Finds.{found-test, then-given, or-given, unless-given}
+use Rattle.laws.proofs.Finds.{found-test, none-first, then-given, or-given, unless-given}
 use Rattle.laws.proofs.Lays.{both-true, lay-fields}
 use Rattle.laws.proofs.Good.{Good}
 use Rattle.laws.proofs.Heads.{sum-header, length-records}
@@ -50,12 +50,6 @@ same-true (x ∷ xs) (y ∷ ys) e =
     let s = same-true xs ys (p .1) in
     cc
 
-three-tests : (a b c : Bool) → firstOf ((a, 22) ∷ (b, 23) ∷ (c, 24) ∷ []) ≡ 0 → (a ≡ false) × (b ≡ false) × (c ≡ false)
-three-tests true b c e = absurd (omega arith)
-three-tests false true c e = absurd (omega arith)
-three-tests false false true e = absurd (omega arith)
-three-tests false false false e = (refl, refl, refl)
-
 -- what a header has where none of 20 to 24 is given
 pub record Headed (t : Table) (b : List ℕ) : Type 0 where
   pub signed : take 4 b ≡ sign t
@@ -76,7 +70,8 @@ judged b t e = by (ltb (length b) 36) e
         let (z, g) = unless-given (headFault u b) 0 (given u) f in
         let same-table : u ≡ t = cc in
         let s : find (λ u. same (take 4 b) (sign u)) tables ≡ some u = or-given 21 0 (signed b) o in
-        let (x, y, w) = three-tests (not (all (leb (front u) (lengthIn b) ∷ leb (lengthIn b) (length b) ∷ leb (lengthIn b) limit ∷ []))) (not (eqb (sum (own b) % 256) 0)) (not (fixedOk (tail u) (drop 36 b))) z in
+        let long = all (leb (front u) (lengthIn b) ∷ leb (lengthIn b) (length b) ∷ leb (lengthIn b) limit ∷ []) in
+        let (x, (y, (w, end))) = none-first ((not long, 22) ∷ (not (eqb (sum (own b) % 256) 0), 23) ∷ (not (fixedOk (tail u) (drop 36 b)), 24) ∷ []) (search arith) z in
         let p = both-true (leb (front u) (lengthIn b)) (both (leb (lengthIn b) (length b)) (leb (lengthIn b) limit)) (not-false _ x) in
         let q = both-true (leb (lengthIn b) (length b)) (leb (lengthIn b) limit) (p .1) in
         let H : Headed u b = record {

@@ -1,0 +1,69 @@
+-- Bytes laid over joined lists, over what was laid before, and what that does to the sum: by induction over the buffer.
+use mathlib.Core.Path.{_≡_, refl, ap}
+use Prim.Native.Nat.{ℕ, zero, suc, _+_, _≤_}
+use mathlib.Core.List.{List, [], _∷_, _++_}
+use native.Mathlib.Omega.{arith}
+use native.Mathlib.Nat.{zero-add, suc-add}
+use lib.ListN.{length, take, drop, length-append}
+use lib.Seq.{drop-append-add, drop-append-le, take-append-le}
+use Rattle.format.specs.Bytes.{over, part, sum}
+
+-- ---- joined lists
+
+over-nil : (bs : List ℕ) (p : ℕ) → over bs p [] ≡ bs
+unfolding over
+over-nil [] p = refl
+over-nil (b ∷ bs) zero = refl
+over-nil (b ∷ bs) (suc p) = rw (over-nil bs p)
+
+-- behind the first of two lists
+pub over-right : (ps qs cs : List ℕ) (k : ℕ) → over (ps ++ qs) (length ps + k) cs ≡ ps ++ over qs k cs
+unfolding over
+over-right [] qs cs k = rw zero-add
+over-right (p ∷ ps) qs cs k = rw (suc-add, over-right ps qs cs k)
+
+-- within the first of two lists
+pub over-left : (ps qs cs : List ℕ) (k : ℕ) → k + length cs ≤ length ps → over (ps ++ qs) k cs ≡ over ps k cs ++ qs
+unfolding over
+over-left ps qs [] k h = rw (over-nil, over-nil)
+over-left [] qs (c ∷ cs) k h = absurd (omega arith)
+over-left (p ∷ ps) qs (c ∷ cs) zero h = rw (over-left ps qs cs zero (omega arith))
+over-left (p ∷ ps) qs (c ∷ cs) (suc k) h = rw (over-left ps qs (c ∷ cs) k (omega arith))
+
+-- ---- what was laid before
+
+-- a change within what was laid is laid with it
+pub over-within : (xs zs cs : List ℕ) (p k : ℕ) → k + length cs ≤ length zs → over (over xs p zs) (p + k) cs ≡ over xs p (over zs k cs)
+unfolding over
+over-within [] zs cs p k h = refl
+over-within (x ∷ xs) zs cs (suc p) k h = rw (suc-add, over-within xs zs cs p k h)
+over-within (x ∷ xs) [] [] zero k h = rw over-nil
+over-within (x ∷ xs) [] (c ∷ cs) zero k h = absurd (omega arith)
+over-within (x ∷ xs) (z ∷ zs) [] zero k h = rw (over-nil, over-nil)
+over-within (x ∷ xs) (z ∷ zs) (c ∷ cs) zero zero h = rw (← zero-add 0) (ap (λ (l : List ℕ). c ∷ l) (over-within xs zs cs zero zero (omega arith)))
+over-within (x ∷ xs) (z ∷ zs) (c ∷ cs) zero (suc k) h = rw zero-add (ap (λ (l : List ℕ). z ∷ l) (rw zero-add at (over-within xs zs (c ∷ cs) zero k (omega arith))))
+
+-- a part of what was laid
+pub part-within : (xs zs : List ℕ) (p k n : ℕ) → k + n ≤ length zs → p + (k + n) ≤ length xs → part (over xs p zs) (p + k) n ≡ part zs k n
+unfolding over part
+part-within [] zs p zero zero h l = refl
+part-within [] zs p (suc k) n h l = absurd (omega arith)
+part-within [] zs p zero (suc n) h l = absurd (omega arith)
+part-within (x ∷ xs) zs (suc p) k n h l = rw (suc-add, part-within xs zs p k n h (omega arith))
+part-within (x ∷ xs) [] zero zero zero h l = refl
+part-within (x ∷ xs) [] zero (suc k) n h l = absurd (omega arith)
+part-within (x ∷ xs) [] zero zero (suc n) h l = absurd (omega arith)
+part-within (x ∷ xs) (z ∷ zs) zero (suc k) n h l = rw zero-add (rw zero-add at (part-within xs zs zero k n (omega arith) (omega arith)))
+part-within (x ∷ xs) (z ∷ zs) zero zero zero h l = refl
+part-within (x ∷ xs) (z ∷ zs) zero zero (suc n) h l = ap (λ (l : List ℕ). z ∷ l) (part-within xs zs zero zero n (omega arith) (omega arith))
+
+-- ---- the sum
+
+-- the bytes that were there go, the new ones come
+pub sum-over : (xs cs : List ℕ) (p : ℕ) → p + length cs ≤ length xs → sum (over xs p cs) + sum (part xs p (length cs)) ≡ sum xs + sum cs
+unfolding over part sum
+sum-over [] [] p l = refl
+sum-over [] (c ∷ cs) p l = absurd (omega arith)
+sum-over (x ∷ xs) cs (suc p) l = omega (arith, sum-over xs cs p (omega arith))
+sum-over (x ∷ xs) [] zero l = omega arith
+sum-over (x ∷ xs) (c ∷ cs) zero l = omega (arith, sum-over xs cs zero (omega arith))
