@@ -6,6 +6,8 @@ use lib.ListN.{drop}
 use lib.Seq.{drop-drop}
 use Rattle.format.specs.Bytes.{part}
 use Rattle.format.specs.Layout.{Item, wide, fieldsWith, fixedOk}
+use Rattle.format.specs.Form.{Form, layout}
+use Rattle.format.specs.Node.{node, nodeAt}
 use Rattle.laws.specs.Offsets.{fieldsAt, fixedAt}
 
 pub fields-at : (g : ℕ → ℕ) (is : List Item) (bs : List ℕ) (p : ℕ) → fieldsWith g is (drop p bs) ≡ fieldsAt g is bs p
@@ -17,3 +19,7 @@ pub fixed-at : (is : List Item) (bs : List ℕ) (p : ℕ) → fixedOk is (drop p
 unfolding fixedOk part
 fixed-at [] bs p = refl
 fixed-at (i ∷ is) bs p = rw (drop-drop (wide i) p bs, fixed-at is bs (p + wide i))
+
+pub node-at : (g : ℕ → ℕ) (f : Form) (bs : List ℕ) → nodeAt g f bs ≡ node f (fieldsAt g (layout f) bs 0)
+unfolding nodeAt
+node-at g f bs = rw (fields-at g (layout f) bs 0)
