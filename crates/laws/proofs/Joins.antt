@@ -1,10 +1,10 @@
 -- A layout's bytes are its numbers at their widths, and joined layouts lie one behind the other, by induction over the items.
 use mathlib.Core.Path.{_≡_, refl}
-use Prim.Native.Nat.{ℕ, _≤_}
-use mathlib.Core.List.{List, [], _∷_, _++_, append-assoc, map}
+use Prim.Native.Nat.{ℕ, zero, suc, _≤_}
+use mathlib.Core.List.{List, [], _∷_, _++_, append-assoc, append-nil, map}
 use native.Mathlib.Omega.{arith}
-use lib.ListN.{length, drop}
-use Rattle.format.specs.Bytes.{join}
+use lib.ListN.{length, drop, replicate}
+use Rattle.format.specs.Bytes.{le, join}
 use Rattle.format.specs.Layout.{Item, wide, arity, arities, numberWith, layWith}
 use Rattle.laws.specs.Numbers.{numbers}
 use Rattle.laws.proofs.Lays.{rest-length, item-append}
@@ -22,3 +22,16 @@ module _ (g : ℕ → ℕ) where
   lay-append (i ∷ is) js vs us l =
       let a = item-append g i vs us (omega arith) in
       rw (a .0, a .1, lay-append is js (drop (arity i) vs) us (rest-length i is vs l), append-assoc)
+
+-- one number alone
+pub join-one : (w v : ℕ) → join (w ∷ []) (v ∷ []) ≡ le w v
+unfolding join
+join-one w v = append-nil (le w v)
+
+-- one number more behind others of its width
+pub join-more : (n w : ℕ) (vs : List ℕ) (v : ℕ) → length vs ≡ n → join (replicate (suc n) w) (vs ++ (v ∷ [])) ≡ join (replicate n w) vs ++ le w v
+unfolding join
+join-more zero w [] v l = join-one w v
+join-more zero w (x ∷ vs) v l = absurd (omega arith)
+join-more (suc n) w [] v l = absurd (omega arith)
+join-more (suc n) w (x ∷ vs) v l = rw (join-more n w vs v (omega arith), append-assoc)

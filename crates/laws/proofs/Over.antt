@@ -1,5 +1,5 @@
 -- Bytes laid over joined lists, over what was laid before, and what that does to the sum: by induction over the buffer.
-use mathlib.Core.Path.{_≡_, refl, ap}
+use mathlib.Core.Path.{_≡_, refl, ap, _∙_}
 use Prim.Native.Nat.{ℕ, zero, suc, _+_, _≤_}
 use mathlib.Core.List.{List, [], _∷_, _++_}
 use native.Mathlib.Omega.{arith}
@@ -42,6 +42,10 @@ over-within (x ∷ xs) [] (c ∷ cs) zero k h = absurd (omega arith)
 over-within (x ∷ xs) (z ∷ zs) [] zero k h = rw (over-nil, over-nil)
 over-within (x ∷ xs) (z ∷ zs) (c ∷ cs) zero zero h = rw (← zero-add 0) (ap (λ (l : List ℕ). c ∷ l) (over-within xs zs cs zero zero (omega arith)))
 over-within (x ∷ xs) (z ∷ zs) (c ∷ cs) zero (suc k) h = rw zero-add (ap (λ (l : List ℕ). z ∷ l) (rw zero-add at (over-within xs zs (c ∷ cs) zero k (omega arith))))
+
+-- a change within the first of two lists that are laid one behind the other
+pub over-within-first : (xs : List ℕ) (p : ℕ) (ys zs : List ℕ) (k : ℕ) (cs : List ℕ) → k + length cs ≤ length ys → over (over xs p (ys ++ zs)) (p + k) cs ≡ over xs p (over ys k cs ++ zs)
+over-within-first xs p ys zs k cs h = over-within xs (ys ++ zs) cs p k (simp length-append (omega arith)) ∙ rw (over-left ys zs cs k h)
 
 -- a part of what was laid
 pub part-within : (xs zs : List ℕ) (p k n : ℕ) → k + n ≤ length zs → p + (k + n) ≤ length xs → part (over xs p zs) (p + k) n ≡ part zs k n

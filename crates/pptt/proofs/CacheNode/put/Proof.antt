@@ -1,0 +1,32 @@
+-- `CacheNode::put` meets its contract: the numbers at their widths are those of the layout.
+use mathlib.Core.Path.{_∙_}
+use borrow.Author.Needs.{needs}
+use Rattle.format.specs.Layout.{asIs}
+use Rattle.format.specs.Form.{layout}
+use Rattle.format.specs.Node.{bytes}
+use Rattle.laws.proofs.Joins.{lay-join}
+use Rattle.pptt.proofs.CacheNode.put.Statement.{statement}
+use Rattle.pptt.proofs.CacheNode.put.Tie as tie
+
+returns : tie.Need-returns
+unfolding bytes layout
+returns c = c .before .before .put-all .ensures ∙ rw (lay-join asIs)
+
+pub put-spec : {M : Type 1} → statement M
+put-spec =
+    tie.close
+    (tie.spec
+    (λ c. search needs)
+    (λ c. search needs)
+    (λ c. search needs)
+    (λ c. search needs)
+    (λ c. search needs)
+    (λ c. search needs)
+    (λ c. search needs)
+    (λ c. search needs)
+    (λ c. search needs)
+    (λ c. search needs)
+    (λ c. search needs)
+    (λ c κs. search needs)
+    (λ c. search needs)
+    returns)

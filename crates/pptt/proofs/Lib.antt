@@ -1,0 +1,2 @@
+pub mod Processors
+pub mod Caches
