@@ -4,6 +4,7 @@ pub mod Finds
 pub mod Lays
 pub mod Offsets
 pub mod Joins
+pub mod Words
 pub mod Nodes
 pub mod Links
 pub mod Shapes
@@ -11,6 +12,8 @@ pub mod Fits
 pub mod Masks
 pub mod Good
 pub mod Grows
+pub mod Faults
+pub mod Refusals
 pub mod Heads
 pub mod Builds
 pub mod Calls
@@ -18,6 +21,12 @@ pub mod Settings
 pub mod Swaps
 pub mod Found
 pub mod Walks
+pub mod Parts
 pub mod Trips
 pub mod Promises
+pub mod Buffers
+pub mod Tables
+pub mod Judges
+pub mod Readings
+pub mod Outs
 pub mod Cases

@@ -30,7 +30,7 @@ sum-table : (m : Meaning) → sum (tableFrom m) % 256 ≡ 0
 unfolding tableFrom summed
 sum-table m = sum-zero (m .head) (length (m .nodes)) (front (m .head .table) + length (records (m .head .table) (m .nodes))) (records (m .head .table) (m .nodes))
 
-length-table : (m : Meaning) → length (m .head .identity) ≡ 26 → length (tableFrom m) ≡ lengthOf m
+pub length-table : (m : Meaning) → length (m .head .identity) ≡ 26 → length (tableFrom m) ≡ lengthOf m
 unfolding tableFrom summed
 length-table m h26 =
     let h = m .head in

@@ -1,13 +1,21 @@
--- Demand 3: two readers of which one knows every row that the other knows, and when a reader sees a record as unknown.
+-- Demand 3: two readers of which one knows every row that the other knows, when a reader sees a record as unknown, and what a reader shows of a built table.
 use mathlib.Core.Path.{_≡_}
 use mathlib.Core.Logic.{_↔_}
-use Prim.Native.Nat.{ℕ}
-use mathlib.Core.List.{List, []}
+use Prim.Native.Nat.{ℕ, _+_, _≤_}
+use mathlib.Core.List.{List, [], _∷_, _++_}
 use mathlib.Core.Bool.{true, false}
 use mathlib.Core.Option.{Option, none, some}
-use Rattle.format.specs.Table.{Table}
-use Rattle.format.specs.Row.{Row, home, matches, knows, known}
-use Rattle.format.specs.Read.{Seen, Reading, reading}
+use lib.ListN.{length}
+use Rattle.format.specs.Bytes.{part, refused, given}
+use Rattle.format.specs.Table.{Table, front}
+use Rattle.format.specs.Form.{Form, processor, cache, memory, acpi, pci, rintc, domain, matrix, side, typeOf, size, layout}
+use Rattle.format.specs.Row.{Row, processors, caches, memories, initiators, rintcs, domains, matrices, sides, home, matches, knows, known}
+use Rattle.format.specs.Node.{Node, bytes, sizes, starts, placeOf}
+use Rattle.format.specs.Recipe.{Meaning}
+use Rattle.format.specs.Build.{table}
+use Rattle.format.specs.Read.{Seen, Reading, reading, shown, listIn, read, readPart}
+use Rattle.format.specs.Out.{every}
+use Rattle.laws.specs.Rename.{rename}
 
 -- ---- two readers
 
@@ -28,6 +36,15 @@ ifKnown (some r) vs = vs
 abbrev pub dimmed : ℕ → Reading → Reading
 dimmed m (reading count type place length row fields) = reading count type place length (known m row) (ifKnown (known m row) fields)
 
+-- a list where its record is known; of an unknown one its whole extent
+abbrev pub orWhole : Option Row → List ℕ → List ℕ → List ℕ
+orWhole none list whole = whole
+orWhole (some r) list whole = list
+
+-- the part of table b that comes back beside an answer: it stays only if the mask has the row
+abbrev pub widened : List ℕ → ℕ → Reading → List ℕ → List ℕ
+widened b m (reading count type place length row fields) list = orWhole (known m row) list (part b place length)
+
 -- ---- unknown exactly when
 
 -- the row is of table t and matches a record of this revision, type and bytes
@@ -40,3 +57,31 @@ pub record Exact (t : Table) (rev mask : ℕ) (s : Seen) : Type 0 where
   pub unknown : (s .row ≡ none) ↔ ((r : Row) → Fits t rev (s .type) (s .body) r → knows mask r ≡ false)
   -- it is of a row exactly when the row fits and is known
   pub ofRow : (r : Row) → (s .row ≡ some r) ↔ (Fits t rev (s .type) (s .body) r × (knows mask r ≡ true))
+
+-- ---- of a built table
+
+-- the row of a form
+abbrev pub rowFor : Form → Row
+rowFor (processor n) = processors
+rowFor cache = caches
+rowFor memory = memories
+rowFor acpi = initiators
+rowFor pci = initiators
+rowFor rintc = rintcs
+rowFor domain = domains
+rowFor (matrix i t) = matrices
+rowFor (side n) = sides
+
+-- what a reader of every row answers on node n of a table of count records, behind the nodes before it: references are places
+abbrev pub answerOn : Table → ℕ → List Node → Node → Reading
+answerOn t count before n =
+    reading count (typeOf (n .form)) (front t + sizes before) (size (n .form)) (some (rowFor (n .form)))
+    (shown (n .form) (rename (placeOf (starts t before)) (layout (n .form)) (n .values)))
+
+-- of a recipe that means m, whose nodes are listed newest first: record k of its table is node k, and there is no other
+pub record Shows (r : List ℕ) (m : Meaning) : Type 0 where
+  pub fields : (later before : List Node) (n : Node) → m .nodes ≡ later ++ (n ∷ before)
+      → read (table r) every (length before) ≡ given (answerOn (m .head .table) (length (m .nodes)) before n)
+  pub list : (later before : List Node) (n : Node) → m .nodes ≡ later ++ (n ∷ before)
+      → readPart (table r) every (length before) ≡ listIn (n .form) (bytes (placeOf (starts (m .head .table) before)) n)
+  pub past : (k : ℕ) → length (m .nodes) ≤ k → read (table r) every k ≡ refused 28 (length (m .nodes))

@@ -3,5 +3,9 @@ pub mod Numbers
 pub mod Offsets
 pub mod Settings
 pub mod Cases
+pub mod Words
+pub mod Demand1
 pub mod Demand2
 pub mod Demand3
+pub mod Demand1Read
+pub mod Buffers

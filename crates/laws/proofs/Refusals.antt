@@ -1,0 +1,415 @@
+-- When build gives each answer: one law for cutting at a place, and an induction over the records before the first faulty one.
+use mathlib.Core.Path.{_≡_, refl, sym, ap, _∙_}
+use mathlib.Core.Logic.{_↔_, _⊎_, inl, inr, ⊎-elim}
+use Prim.Native.Nat.{ℕ, zero, suc, _+_, _≤_, _<_}
+use mathlib.Core.List.{List, [], _∷_}
+use mathlib.Core.Bool.{Bool, true, false, not}
+use mathlib.Core.Option.{Option, none, some}
+use native.Mathlib.Omega.{arith}
+use native.Mathlib.Nat.{add-zero}
+use lib.ListN.{length, drop, length-drop, drop-of-length-le, List·getD-eq-default}
+use lib.Seq.{drop-cons, drop-drop}
+use lib.Dec.{eqb, ltb}
+use borrow.Author.Tests.{eqb-true, eqb-false, ne-eqb, le-ltb, lt-ltb, ltb-true, ltb-false}
+use Rattle.format.specs.Bytes.{pick, firstOf, Answer, refused, given, andThen, orRefused, unless, at, part}
+use Rattle.format.specs.Layout.{width}
+use Rattle.format.specs.Table.{Table, pptt, srat, hmat, tables, code, Head, headOf}
+use Rattle.format.specs.Node.{Node}
+use Rattle.format.specs.Kind.{Kind, kindOf, body}
+use Rattle.format.specs.Recipe.{Calls, done, badKind, cutOff, called, cutAs, skip, cut, newest, added, fault, Meaning, means, since, run, tableOf, headed, meaning}
+use Rattle.format.specs.Build.{lengthOf, fitting, build}
+use Rattle.laws.specs.Words.{FirstOf, NoneOf}
+use Rattle.laws.specs.Demand1.{Belongs, headFaults, recordFaults, fieldsAt, endOf, faults, Headed, OfKind, Reaches, start, next, Comes, Says, AtHead, BadKind, AtRecord, NoRoom, Earned, Exactly, One}
+use Rattle.laws.proofs.Finds.{found-test}
+use Rattle.laws.proofs.Grows.{passed}
+use Rattle.laws.proofs.Words.{found-none, first-one, first-none, Numbers, first-in}
+use Rattle.laws.proofs.Faults.{kind-then, kind-none, kind-is, Follows, follows-next, faultless, faulty}
+
+-- ---- cutting at a place
+
+cut-skip : (t : Table) (k p : ℕ) (bs : List ℕ) → cut t k p bs ≡ cut t 0 (p + k) (drop k bs)
+unfolding cut
+cut-skip t zero p bs = rw add-zero
+cut-skip t (suc k) p [] = refl
+cut-skip t (suc k) p (b ∷ bs) =
+    let e : suc p + k ≡ p + suc k = omega arith in
+    cut-skip t k (suc p) bs ∙ rw e
+
+module _ (t : Table) (r : List ℕ) (p : ℕ) where
+  -- what is cut from p on
+  rest : Calls
+  rest = cut t 0 p (drop p r)
+
+  rest-end : length r ≤ p → rest ≡ done
+  unfolding rest cut
+  rest-end l = rw (drop-of-length-le r l)
+
+  rest-here : (o : Option Kind) → kindOf t (at r p) ≡ o → p < length r → rest ≡ cutAs o (drop (suc p) r) p (cut t 0 (suc p + skip o) (drop (suc p + skip o) r))
+  unfolding rest cut
+  rest-here o e l = rw (drop-cons r p 0 l, e, cut-skip t (skip o) (suc p) (drop (suc p) r), drop-drop (skip o) (suc p) r)
+
+  rest-bad : p < length r → (Belongs t (at r p) → ⊥) → rest ≡ badKind p
+  unfolding cutAs
+  rest-bad l h = by (kindOf t (at r p)) refl
+    where
+      by : (o : Option Kind) → kindOf t (at r p) ≡ o → rest ≡ badKind p
+      by none e = rest-here none e l
+      by (some k) e = absurd (h (kind-then t (at r p) k e .0))
+
+  module _ (k : Kind) (o : OfKind t (at r p) k) where
+    rest-cut : p < length r → length r < endOf p k → rest ≡ cutOff p k
+    unfolding cutAs
+    rest-cut l h =
+        let d : length (drop (suc p) r) < width (body k) = rw length-drop (omega arith) in
+        rest-here (some k) (kind-is t (at r p) k o) l ∙ rw (lt-ltb (length (drop (suc p) r)) (width (body k)) d)
+
+    rest-whole : p < length r → (length r < endOf p k → ⊥) → rest ≡ called p k (fieldsAt r p k) (cut t 0 (endOf p k) (drop (endOf p k) r))
+    unfolding cutAs
+    rest-whole l h =
+        let d : width (body k) ≤ length (drop (suc p) r) = rw length-drop (omega arith) in
+        rest-here (some k) (kind-is t (at r p) k o) l ∙ rw (le-ltb (length (drop (suc p) r)) (width (body k)) d)
+
+-- a kind byte stands in the recipe
+is-here : (t : Table) (r : List ℕ) (p : ℕ) → Belongs t (at r p) → p < length r
+is-here t r p h = by (ltb p (length r)) refl
+  where
+    zero-none : (t : Table) (b : ℕ) → b ≡ 0 → Belongs t b → ⊥
+    zero-none pptt b z h = omega arith
+    zero-none srat b z h = omega arith
+    zero-none hmat b z h = omega arith
+
+    by : (x : Bool) → ltb p (length r) ≡ x → p < length r
+    by true e = ltb-true p (length r) e
+    by false e = absurd (zero-none t (at r p) (List·getD-eq-default r 0 (ltb-false p (length r) e)) h)
+
+-- ---- the records before a place
+
+module _ (t : Table) (r : List ℕ) (hd : Headed t r) where
+  reach-follows : {q p : ℕ} {ns : List Node} → Reaches t r q ns p → Follows (newest ns) (at r q)
+  reach-follows start = rw (hd .0) (omega arith)
+  reach-follows (next {q} {p} {ns} x k o n) =
+      let vs = fieldsAt r p k in
+      let z = faultless t (at r q) ns k vs (reach-follows x) .1 (n .1) in
+      rw (o .1) (follows-next k vs ns (passed t ns k vs z .place))
+
+  reach-within : {q p : ℕ} {ns : List Node} → Reaches t r q ns p → p ≤ length r
+  reach-within start = hd .1
+  reach-within (next {q} {p} x k o n) = by (ltb (length r) (endOf p k)) refl
+    where
+      by : (y : Bool) → ltb (length r) (endOf p k) ≡ y → endOf p k ≤ length r
+      by true e = absurd (n .0 (ltb-true (length r) (endOf p k) e))
+      by false e = ltb-false (length r) (endOf p k) e
+
+-- what a recipe is refused for behind its head
+abbrev Faulted : List ℕ → ℕ → ℕ → Type 0
+Faulted r n p = ((n ≡ 2) × BadKind r p) ⊎ AtRecord n r p
+
+-- what comes of a recipe with the head h
+abbrev Outcome : Head → List ℕ → Answer Meaning → Type 0
+Outcome h r (refused n p) = Faulted r n p
+Outcome h r (given m) = (h ≡ m .head) × ((q : ℕ) × Reaches (h .table) r q (m .nodes) (length r))
+
+module _ (h : Head) (r : List ℕ) (hd : Headed (h .table) r) where
+  -- one record more
+  module _ (y q p : ℕ) (ns : List Node) (x : Reaches (h .table) r q ns p) where
+    run-bad : p < length r → (Belongs (h .table) (at r p) → ⊥) → run h y ns (rest (h .table) r p) ≡ refused 2 p
+    unfolding run
+    run-bad l b = rw (rest-bad (h .table) r p l b)
+
+    module _ (k : Kind) (o : OfKind (h .table) (at r p) k) where
+      l : p < length r
+      l = is-here (h .table) r p (o .0)
+
+      f : Follows (newest ns) (at r q)
+      f = reach-follows (h .table) r hd x
+
+      run-good : NoneOf (faults (h .table) r q ns p k)
+          → run h y ns (rest (h .table) r p) ≡ run h (since ns (added k (fieldsAt r p k) ns) p y) (added k (fieldsAt r p k) ns) (rest (h .table) r (endOf p k))
+      unfolding run rest
+      run-good n = ap (run h y ns) (rest-whole (h .table) r p k o l (n .0)) ∙ rw (faultless (h .table) (at r q) ns k (fieldsAt r p k) f .1 (n .1))
+
+      run-cut : length r < endOf p k → run h y ns (rest (h .table) r p) ≡ refused 3 p
+      unfolding run
+      run-cut c = rw (rest-cut (h .table) r p k o l c)
+
+      run-whole : (m : ℕ) → (length r < endOf p k → ⊥) → FirstOf m (recordFaults (h .table) (at r q) ns k (fieldsAt r p k)) → run h y ns (rest (h .table) r p) ≡ refused m p
+      unfolding run rest
+      run-whole m w d =
+          let z : 0 < m = first-in (λ n. 0 < n) (recordFaults (h .table) (at r q) ns k (fieldsAt r p k)) m d (omega arith) in
+          let e : fault (h .table) ns k (fieldsAt r p k) ≡ m = faulty (h .table) (at r q) ns k (fieldsAt r p k) f m z .1 d in
+          ap (run h y ns) (rest-whole (h .table) r p k o l w) ∙ rw (e, ne-eqb m 0 (λ i. omega arith))
+
+      run-faulty : (m : ℕ) → FirstOf m (faults (h .table) r q ns p k) → run h y ns (rest (h .table) r p) ≡ refused m p
+      run-faulty m d = by (eqb m 3) refl d
+        where
+          by : (c : Bool) → eqb m 3 ≡ c → pick c (length r < endOf p k) ((length r < endOf p k → ⊥) × FirstOf m (recordFaults (h .table) (at r q) ns k (fieldsAt r p k)))
+              → run h y ns (rest (h .table) r p) ≡ refused m p
+          by true e d = rw (eqb-true m 3 e) (run-cut d)
+          by false e d = run-whole m (d .0) (d .1)
+
+  -- good records are passed
+  reach-run : {q p : ℕ} {ns : List Node} → Reaches (h .table) r q ns p → (y : ℕ) × (run h 0 [] (rest (h .table) r 28) ≡ run h y ns (rest (h .table) r p))
+  reach-run start = (0, refl)
+  reach-run (next {q} {p} {ns} x k o n) =
+      let (y, e) = reach-run x in
+      (since ns (added k (fieldsAt r p k) ns) p y, e ∙ run-good y q p ns x k o n)
+
+  -- ---- what comes of the records from p on
+
+  module _ (y q p : ℕ) (ns : List Node) (x : Reaches (h .table) r q ns p) where
+    at-end : length r ≤ p → Outcome h r (run h y ns (rest (h .table) r p))
+    unfolding run
+    at-end l =
+        let e : p ≡ length r = omega (arith, reach-within (h .table) r hd x) in
+        rw (rest-end (h .table) r p l) (refl, (q, rw e at x))
+
+    module _ (l : p < length r) where
+      here : Comes (h .table) r q ns p
+      here = record { head = hd; reached = x; here = l }
+
+      at-record : (k : Kind) → OfKind (h .table) (at r p) k → (n : ℕ) → FirstOf n (faults (h .table) r q ns p k) → Outcome h r (run h y ns (rest (h .table) r p))
+      at-record k o n d = rw (run-faulty y q p ns x k o n d) (inr (h .table, q, ns, k, here, o, d))
+
+      -- a whole record has a first fault, or none
+      at-whole : (k : Kind) → OfKind (h .table) (at r p) k → (length r < endOf p k → ⊥)
+          → (NoneOf (faults (h .table) r q ns p k) → Outcome h r (run h y ns (rest (h .table) r p))) → Outcome h r (run h y ns (rest (h .table) r p))
+      at-whole k o w good = by (eqb n 0) refl
+        where
+          n : ℕ
+          n = fault (h .table) ns k (fieldsAt r p k)
+
+          f : Follows (newest ns) (at r q)
+          f = reach-follows (h .table) r hd x
+
+          by : (c : Bool) → eqb n 0 ≡ c → Outcome h r (run h y ns (rest (h .table) r p))
+          by true e = good (w, faultless (h .table) (at r q) ns k (fieldsAt r p k) f .0 (eqb-true n 0 e))
+          by false e =
+              let z : 0 < n = omega (arith, eqb-false n 0 e) in
+              let d = faulty (h .table) (at r q) ns k (fieldsAt r p k) f n z .0 refl in
+              let m : 3 < n = first-in (λ n. 3 < n) (recordFaults (h .table) (at r q) ns k (fieldsAt r p k)) n d (omega arith) in
+              at-record k o n (rw (ne-eqb n 3 (λ i. omega arith)) (w, d))
+
+      at-kind : (k : Kind) → OfKind (h .table) (at r p) k
+          → (NoneOf (faults (h .table) r q ns p k) → Outcome h r (run h y ns (rest (h .table) r p))) → Outcome h r (run h y ns (rest (h .table) r p))
+      at-kind k o good = by (ltb (length r) (endOf p k)) refl
+        where
+          by : (c : Bool) → ltb (length r) (endOf p k) ≡ c → Outcome h r (run h y ns (rest (h .table) r p))
+          by true e = at-record k o 3 (ltb-true (length r) (endOf p k) e)
+          by false e = at-whole k o (λ i. omega (arith, ltb-false (length r) (endOf p k) e)) good
+
+  -- j: as many bytes may be left
+  outcome : (j y q p : ℕ) (ns : List Node) → length r ≤ p + j → Reaches (h .table) r q ns p → Outcome h r (run h y ns (rest (h .table) r p))
+  outcome zero y q p ns l x = at-end y q p ns x (omega arith)
+  outcome (suc j) y q p ns l x = by (ltb p (length r)) refl (outcome j)
+    where
+      kind : p < length r → ((y q p : ℕ) (ns : List Node) → length r ≤ p + j → Reaches (h .table) r q ns p → Outcome h r (run h y ns (rest (h .table) r p)))
+          → (o : Option Kind) → kindOf (h .table) (at r p) ≡ o → Outcome h r (run h y ns (rest (h .table) r p))
+      kind i ih none e =
+          let b = kind-none (h .table) (at r p) e in
+          rw (run-bad y q p ns x i b) (inl (refl, (h .table, q, ns, here y q p ns x i, b)))
+      kind i ih (some k) e =
+          let o = kind-then (h .table) (at r p) k e in
+          at-kind y q p ns x i k o λ n.
+          rw (run-good y q p ns x k o n) (ih (since ns (added k (fieldsAt r p k) ns) p y) p (endOf p k) (added k (fieldsAt r p k) ns) (omega arith) (next x k o n))
+
+      by : (c : Bool) → ltb p (length r) ≡ c → ((y q p : ℕ) (ns : List Node) → length r ≤ p + j → Reaches (h .table) r q ns p → Outcome h r (run h y ns (rest (h .table) r p)))
+          → Outcome h r (run h y ns (rest (h .table) r p))
+      by true e ih = kind (ltb-true p (length r) e) ih (kindOf (h .table) (at r p)) refl
+      by false e ih = at-end y q p ns x (ltb-false p (length r) e)
+
+-- ---- the head
+
+module _ (r : List ℕ) where
+  abbrev HeadOutcome : Answer Head → Type 0
+  HeadOutcome (refused n p) = AtHead n r p
+  HeadOutcome (given h) = Headed (h .table) r × (h ≡ headOf (h .table) (part r 2 26))
+
+  no-table : tableOf (at r 1) ≡ none → 2 < at r 1
+  no-table e =
+      let m = found-none (λ t. eqb (at r 1) (code t)) tables e in
+      omega (arith, eqb-false (at r 1) 0 (m .0), eqb-false (at r 1) 1 (m .1 .0), eqb-false (at r 1) 2 (m .1 .1 .0))
+
+  head-outcome : HeadOutcome (headed r)
+  unfolding headed
+  head-outcome = by (eqb (at r 0) 1) refl (ltb (length r) 28) refl (tableOf (at r 1)) refl
+    where
+      by : (x : Bool) → eqb (at r 0) 1 ≡ x → (y : Bool) → ltb (length r) 28 ≡ y → (o : Option Table) → tableOf (at r 1) ≡ o
+          → HeadOutcome (unless (firstOf ((not x, 1) ∷ (y, 3) ∷ [])) 0 (andThen (orRefused 5 0 o) (λ t. given (headOf t (part r 2 26)))))
+      by false e y d o f = (eqb-false (at r 0) 1 e, refl)
+      by true e true d o f = ((λ z. z (eqb-true (at r 0) 1 e), ltb-true (length r) 28 d), refl)
+      by true e false d none f = ((λ z. z (eqb-true (at r 0) 1 e), (λ z. omega (arith, ltb-false (length r) 28 d), no-table f)), refl)
+      by true e false d (some t) f =
+          ((eqb-true (at r 0) 1 e, ltb-false (length r) 28 d, eqb-true (at r 1) (code t) (found-test (λ t. eqb (at r 1) (code t)) tables t f)), refl)
+
+  code-low : (t : Table) → code t ≤ 2
+  code-low pptt = omega arith
+  code-low srat = omega arith
+  code-low hmat = omega arith
+
+  head-fine : (t : Table) → Headed t r → NoneOf (headFaults r)
+  head-fine t (a, l, c) = (λ z. z a, (λ z. omega arith, (λ z. omega (arith, code-low t), tt)))
+
+  table-one : (t u : Table) → at r 1 ≡ code t → at r 1 ≡ code u → t ≡ u
+  table-one t u a b = let e : some t ≡ some u = sym (table-back t) ∙ (ap tableOf (sym a ∙ b) ∙ table-back u) in cc
+    where
+      table-back : (t : Table) → tableOf (code t) ≡ some t
+      table-back pptt = refl
+      table-back srat = refl
+      table-back hmat = refl
+
+  headed-is : (t : Table) → Headed t r → headed r ≡ given (headOf t (part r 2 26))
+  headed-is t hd = by (headed r) head-outcome
+    where
+      by : (a : Answer Head) → HeadOutcome a → a ≡ given (headOf t (part r 2 26))
+      by (refused n p) o = absurd (first-none (headFaults r) n (o .0) (head-fine t hd))
+      by (given h) o = let e = table-one (h .table) t (o .0 .2) (hd .2) in ap given (o .1 ∙ rw e)
+
+  headed-not : (n p : ℕ) → AtHead n r p → headed r ≡ refused n p
+  headed-not n p (f, z) = by (headed r) head-outcome
+    where
+      by : (a : Answer Head) → HeadOutcome a → a ≡ refused n p
+      by (refused m q) (g, y) = let e = first-one (headFaults r) n m f g in rw (z, y, e)
+      by (given h) o = absurd (first-none (headFaults r) n f (head-fine (h .table) (o .0)))
+
+-- ---- the whole recipe
+
+module _ (r : List ℕ) where
+  -- refused up to 8
+  abbrev Refused : ℕ → ℕ → Type 0
+  Refused n p = AtHead n r p ⊎ Faulted r n p
+
+  abbrev Judged : Answer Meaning → Type 0
+  Judged (refused n p) = Refused n p
+  Judged (given m) = Says r m
+
+  run-judged : (h : Head) → Headed (h .table) r → h ≡ headOf (h .table) (part r 2 26) → (a : Answer Meaning) → Outcome h r a → Judged a
+  run-judged h hd i (refused n p) o = inr o
+  run-judged h hd i (given m) (e, (q, x)) = record { head = rw e at hd; identity = rw e at i; last = q; reached = rw e at x }
+
+  judged : Judged (meaning r)
+  unfolding meaning rest
+  judged = by (headed r) (head-outcome r)
+    where
+      by : (a : Answer Head) → HeadOutcome r a → Judged (andThen a (λ h. run h 0 [] (cut (h .table) 0 28 (drop 28 r))))
+      by (refused n p) o = inl o
+      by (given h) (hd, i) = run-judged h hd i (run h 0 [] (rest (h .table) r 28)) (outcome h r hd (length r) 0 0 28 [] (omega arith) start)
+
+  meaning-run : (t : Table) → Headed t r → meaning r ≡ run (headOf t (part r 2 26)) 0 [] (rest t r 28)
+  unfolding meaning rest
+  meaning-run t hd = rw (headed-is r t hd)
+
+  refuses : (n p : ℕ) → Refused n p → meaning r ≡ refused n p
+  unfolding meaning
+  refuses n p (inl a) = rw (headed-not r n p a)
+  refuses n p (inr (inl (z, (t, q, ns, c, b)))) =
+      let h = headOf t (part r 2 26) in
+      let (y, e) = reach-run h r (c .head) (c .reached) in
+      meaning-run t (c .head) ∙ (e ∙ (run-bad h r (c .head) y q p ns (c .reached) (c .here) b ∙ rw z))
+  refuses n p (inr (inr (t, q, ns, k, c, o, d))) =
+      let h = headOf t (part r 2 26) in
+      let (y, e) = reach-run h r (c .head) (c .reached) in
+      meaning-run t (c .head) ∙ (e ∙ run-faulty h r (c .head) y q p ns (c .reached) k o n d)
+
+  gives : (m : Meaning) → Says r m → meaning r ≡ given m
+  unfolding run
+  gives m s =
+      let h = headOf (m .head .table) (part r 2 26) in
+      let (y, e) = reach-run h r (s .head) (s .reached) in
+      let d : means h (m .nodes) ≡ m = rw (← s .identity) in
+      meaning-run (m .head .table) (s .head) ∙ (e ∙ (rw (rest-end (m .head .table) r (length r) (omega arith)) (ap given d)))
+
+  -- what a recipe means, in words
+  pub meaning-given : (m : Meaning) → (meaning r ≡ given m) ↔ Says r m
+  meaning-given m = (λ e. rw e at judged, gives m)
+
+-- ---- build
+
+module _ (r : List ℕ) (room : ℕ) where
+  earned : Earned r room (build r room)
+  unfolding build
+  earned = by (meaning r) (judged r)
+    where
+      fits : (m : Meaning) → Says r m → (x : Bool) → ltb room (lengthOf m) ≡ x → Earned r room (pick x (refused 9 (lengthOf m)) (given (lengthOf m)))
+      fits m s true e = inr (inr (inr (refl, (m, s, ltb-true room (lengthOf m) e, refl))))
+      fits m s false e = (m, s, ltb-false room (lengthOf m) e, refl)
+
+      by : (a : Answer Meaning) → Judged r a → Earned r room (andThen a (λ m. fitting 9 room (lengthOf m)))
+      by (refused n p) (inl a) = inl a
+      by (refused n p) (inr (inl b)) = inr (inl b)
+      by (refused n p) (inr (inr c)) = inr (inr (inl c))
+      by (given m) s = fits m s (ltb room (lengthOf m)) refl
+
+  only : (a : Answer ℕ) → Earned r room a → build r room ≡ a
+  unfolding build
+  only (refused n p) (inl a) = rw (refuses r n p (inl a))
+  only (refused n p) (inr (inl b)) = rw (refuses r n p (inr (inl b)))
+  only (refused n p) (inr (inr (inl c))) = rw (refuses r n p (inr (inr c)))
+  only (refused n p) (inr (inr (inr (i, (m, s, l, z))))) = rw (gives r m s, lt-ltb room (lengthOf m) l, i, z)
+  only (given n) (m, s, l, z) = rw (gives r m s, le-ltb room (lengthOf m) l, z)
+
+  when : (a : Answer ℕ) → (build r room ≡ a) ↔ Earned r room a
+  when a = (λ e. rw e at earned, only a)
+
+  -- ---- the numbers
+
+  head-number : (P : ℕ → Type 0) (n p : ℕ) → Numbers P (headFaults r) → AtHead n r p → P n
+  head-number P n p a h = first-in P (headFaults r) n (h .0) a
+
+  record-number : (n p : ℕ) → AtRecord n r p → (3 ≤ n) × (n ≤ 8)
+  record-number n p (t, q, ns, k, c, o, d) = first-in (λ m. (3 ≤ m) × (m ≤ 8)) (faults t r q ns p k) n d (omega arith)
+
+  earned-number : (n p : ℕ) → Earned r room (refused n p) → (1 ≤ n) × (n ≤ 9)
+  earned-number n p (inl a) = head-number (λ m. (1 ≤ m) × (m ≤ 9)) n p (omega arith) a
+  earned-number n p (inr (inl b)) = omega (arith, b .0)
+  earned-number n p (inr (inr (inl c))) = omega (arith, record-number n p c)
+  earned-number n p (inr (inr (inr d))) = omega (arith, d .0)
+
+  pub one : One r room
+  one = record { earned = earned; only = only; numbers = λ n p e. earned-number n p (when (refused n p) .0 e) }
+
+  -- a number that is given behind the head alone, or there too
+  of-record : (n p : ℕ) → (3 ≤ n) × (n ≤ 8) → (build r room ≡ refused n p) ↔ (AtHead n r p ⊎ AtRecord n r p)
+  of-record n p l =
+      (λ e. by (when (refused n p) .0 e), ⊎-elim (λ a. only (refused n p) (inl a)) (λ c. only (refused n p) (inr (inr (inl c)))))
+    where
+      by : Earned r room (refused n p) → AtHead n r p ⊎ AtRecord n r p
+      by (inl a) = inl a
+      by (inr (inl b)) = absurd (omega (arith, b .0))
+      by (inr (inr (inl c))) = inr c
+      by (inr (inr (inr d))) = absurd (omega (arith, d .0))
+
+  not-head : (n p : ℕ) → (3 ≤ n) × (n ≤ 8) → Numbers (λ m. m ≡ n → ⊥) (headFaults r) → (build r room ≡ refused n p) ↔ AtRecord n r p
+  not-head n p l d = (λ e. ⊎-elim (λ a. absurd (head-number (λ m. m ≡ n → ⊥) n p d a refl)) (λ c. c) (of-record n p l .0 e), λ c. of-record n p l .1 (inr c))
+
+  no-head : (p : ℕ) → Earned r room (refused 1 p) → AtHead 1 r p
+  no-head p (inl a) = a
+  no-head p (inr (inl b)) = absurd (omega (arith, b .0))
+  no-head p (inr (inr (inl c))) = absurd (omega (arith, record-number 1 p c))
+  no-head p (inr (inr (inr d))) = absurd (omega (arith, d .0))
+
+  bad-kind : (p : ℕ) → Earned r room (refused 2 p) → BadKind r p
+  bad-kind p (inl a) = absurd (head-number (λ m. m ≡ 2 → ⊥) 2 p (omega arith) a refl)
+  bad-kind p (inr (inl b)) = b .1
+  bad-kind p (inr (inr (inl c))) = absurd (omega (arith, record-number 2 p c))
+  bad-kind p (inr (inr (inr d))) = absurd (omega (arith, d .0))
+
+  no-room : (p : ℕ) → Earned r room (refused 9 p) → NoRoom r room p
+  no-room p (inl a) = absurd (head-number (λ m. m ≡ 9 → ⊥) 9 p (omega arith) a refl)
+  no-room p (inr (inl b)) = absurd (omega (arith, b .0))
+  no-room p (inr (inr (inl c))) = absurd (omega (arith, record-number 9 p c))
+  no-room p (inr (inr (inr d))) = d .1
+
+  pub exactly : Exactly r room
+  exactly =
+      record {
+        noHead = λ p. (λ e. no-head p (when (refused 1 p) .0 e), λ a. only (refused 1 p) (inl a));
+        badKind = λ p. (λ e. bad-kind p (when (refused 2 p) .0 e), λ b. only (refused 2 p) (inr (inl (refl, b))));
+        cut = λ p. of-record 3 p (omega arith);
+        misplaced = λ p. not-head 4 p (omega arith) (omega arith);
+        badField = λ p. of-record 5 p (omega arith);
+        badRef = λ p. not-head 6 p (omega arith) (omega arith);
+        fullNode = λ p. not-head 7 p (omega arith) (omega arith);
+        tooLong = λ p. not-head 8 p (omega arith) (omega arith);
+        noRoom = λ p. (λ e. no-room p (when (refused 9 p) .0 e), λ d. only (refused 9 p) (inr (inr (inr (refl, d)))));
+        length = λ n. when (given n);
+      }

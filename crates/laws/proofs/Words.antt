@@ -1,0 +1,242 @@
+-- Tests and the conditions that they test: one law for each way to put tests together, and for the first of a list.
+use mathlib.Core.Path.{_≡_, refl, sym, _∙_}
+use mathlib.Core.Logic.{_↔_, _⊎_, inl, inr}
+use Prim.Native.Nat.{ℕ, _+_, _%_, _≤_, _<_}
+use mathlib.Core.List.{List, [], _∷_, _++_}
+use mathlib.Core.Bool.{Bool, true, false, not}
+use mathlib.Core.Option.{none, some}
+use native.Mathlib.Omega.{arith}
+use lib.ListN.{take, drop}
+use lib.Seq.{drop-drop}
+use lib.Dec.{eqb, leb, ltb}
+use borrow.Author.Tests.{eqb-true, eqb-false, leb-true, leb-false, ltb-true, ltb-false}
+use Rattle.format.specs.Bytes.{pick, both, all, firstOf, find, at, value, part, same, bits}
+use Rattle.format.specs.Layout.{Item, fix, fld, two, to, orNone, fixedOk, isGood, refsGood}
+use Rattle.format.specs.Form.{Form, processor, cache, memory, acpi, pci, rintc, domain, matrix, side, kept, cacheAttributes, matrixFlags, sideAttributes, ranges}
+use Rattle.laws.proofs.Finds.{All}
+use Rattle.laws.specs.Words.{FirstOf, NoneOf, Among, Attributes, Rules, Fixed, References}
+
+-- a test is true where P holds, and false where it does not
+pub record Tests (b : Bool) (P : Type 0) : Type 0 where
+  pub right : b ≡ true → P
+  pub wrong : b ≡ false → P → ⊥
+
+pub never : {A : Type 0} → false ≡ true → A
+never h = absurd (let z : _≡_ {A = ℕ} 0 1 = cc in omega arith)
+
+pub tests-leb : (a b : ℕ) → Tests (leb a b) (a ≤ b)
+tests-leb a b = record { right = leb-true a b; wrong = λ e h. omega (arith, leb-false a b e) }
+
+pub tests-ltb : (a b : ℕ) → Tests (ltb a b) (a < b)
+tests-ltb a b = record { right = ltb-true a b; wrong = λ e h. omega (arith, ltb-false a b e) }
+
+pub tests-eqb : (a b : ℕ) → Tests (eqb a b) (a ≡ b)
+tests-eqb a b = record { right = eqb-true a b; wrong = eqb-false a b }
+
+pub tests-true : Tests true Unit
+tests-true = record { right = λ e. tt; wrong = λ e. never (sym e) }
+
+module _ {P : Type 0} where
+  pub tests-not : (b : Bool) → Tests b P → Tests (not b) (P → ⊥)
+  tests-not true t = record { right = never; wrong = λ e h. h (t .right refl) }
+  tests-not false t = record { right = λ e. t .wrong refl; wrong = λ e. never (sym e) }
+
+  module _ {Q : Type 0} where
+    pub tests-both : (a b : Bool) → Tests a P → Tests b Q → Tests (both a b) (P × Q)
+    tests-both true b s t = record { right = λ e. (s .right refl, t .right e); wrong = λ e h. t .wrong e (h .1) }
+    tests-both false b s t = record { right = never; wrong = λ e h. s .wrong refl (h .0) }
+
+    pub tests-as : (b : Bool) → Tests b P → (P → Q) → (Q → P) → Tests b Q
+    tests-as b t f g = record { right = λ e. f (t .right e); wrong = λ e h. t .wrong e (g h) }
+
+pub tests-same : (xs ys : List ℕ) → Tests (same xs ys) (xs ≡ ys)
+unfolding same
+tests-same [] [] = record { right = λ e. refl; wrong = λ e. never (sym e) }
+tests-same [] (y ∷ ys) = record { right = never; wrong = λ e h. let z : _≡_ {A = ℕ} 0 1 = cc in omega arith }
+tests-same (x ∷ xs) [] = record { right = never; wrong = λ e h. let z : _≡_ {A = ℕ} 0 1 = cc in omega arith }
+tests-same (x ∷ xs) (y ∷ ys) =
+    tests-as (both (eqb x y) (same xs ys)) (tests-both (eqb x y) (same xs ys) (tests-eqb x y) (tests-same xs ys)) (λ h. rw (h .0, h .1)) (λ h. (cc, cc))
+
+-- a field whose flag bit is off
+tests-off : (x v : ℕ) → x < 2 → Tests (pick (eqb x 1) true (eqb v 0)) (x ≡ 0 → v ≡ 0)
+tests-off x v l = by (eqb x 1) refl
+  where
+    by : (y : Bool) → eqb x 1 ≡ y → Tests (pick y true (eqb v 0)) (x ≡ 0 → v ≡ 0)
+    by true q = record { right = λ e z. omega (arith, eqb-true x 1 q); wrong = λ e. never (sym e) }
+    by false q = record { right = λ e z. eqb-true v 0 e; wrong = λ e h. eqb-false v 0 e (h (omega (arith, eqb-false x 1 q))) }
+
+a-bit : (x : ℕ) → x % 2 < 2
+a-bit x = omega arith
+
+ruleset tested = (tests-leb, tests-ltb, tests-eqb, tests-true, tests-both, tests-off, a-bit)
+
+-- where a search finds nothing, no test is true
+pub found-none : {A : Type 0} (p : A → Bool) (xs : List A) → find p xs ≡ none → All (λ x. p x ≡ false) xs
+found-none p [] e = tt
+found-none p (x ∷ xs) e = by (p x) refl e (found-none p xs)
+  where
+    by : (b : Bool) → p x ≡ b → pick b (some x) (find p xs) ≡ none → (find p xs ≡ none → All (λ x. p x ≡ false) xs) → All (λ x. p x ≡ false) (x ∷ xs)
+    by true q e ih = absurd (let z : _≡_ {A = ℕ} 0 1 = cc in omega arith)
+    by false q e ih = (q, ih e)
+
+-- ---- lists with the newest first
+
+module _ {A : Type 0} (P : A → List A → Type 0) where
+  pub among-none : Among P [] → ⊥
+  among-none (later, x, before, s, h) = by later s
+    where
+      by : (later : List A) → [] ≡ later ++ (x ∷ before) → ⊥
+      by [] s = let z : _≡_ {A = ℕ} 0 1 = cc in omega arith
+      by (y ∷ later) s = let z : _≡_ {A = ℕ} 0 1 = cc in omega arith
+
+  -- it is the newest, or one of the others
+  pub among-cases : (x : A) (xs : List A) → Among P (x ∷ xs) → P x xs ⊎ Among P xs
+  among-cases x xs (later, y, before, s, h) = by later s
+    where
+      by : (later : List A) → x ∷ xs ≡ later ++ (y ∷ before) → P x xs ⊎ Among P xs
+      by [] s =
+          let i : x ≡ y = cc in
+          let j : xs ≡ before = cc in
+          inl (rw (i, j) h)
+      by (z ∷ later) s = let j : xs ≡ later ++ (y ∷ before) = cc in inr (later, y, before, j, h)
+
+  pub among-more : (x : A) (xs : List A) → Among P xs → Among P (x ∷ xs)
+  among-more x xs (later, y, before, s, h) = (x ∷ later, y, before, rw s, h)
+
+-- ---- the rules of a form
+
+tests-attributes : (f a : ℕ) → Tests (cacheAttributes f a) (Attributes f a)
+unfolding cacheAttributes
+tests-attributes f a = search tested depth 8
+
+tests-cache : (vs : List ℕ) → Tests (all (ranges cache vs)) (Rules cache vs)
+unfolding ranges
+tests-cache vs =
+    let f = at vs 0 in
+    let h = tests-attributes f (at vs 5) in
+    let g : Tests (both (ltb f 256) (both (kept f 0 (at vs 2)) (both (kept f 1 (at vs 3)) (both (kept f 2 (at vs 4)) (both (cacheAttributes f (at vs 5)) (both (kept f 6 (at vs 6)) (kept f 7 (at vs 7))))))))
+    (Rules cache vs) = search tested depth 9 in
+    g
+
+pub tests-rules : (f : Form) (vs : List ℕ) → Tests (all (ranges f vs)) (Rules f vs)
+unfolding ranges matrixFlags sideAttributes
+tests-rules (processor n) vs = tests-true
+tests-rules cache vs = tests-cache vs
+tests-rules memory vs = tests-leb (at vs 3) 7
+tests-rules acpi vs = tests-leb (at vs 3) 3
+tests-rules pci vs = tests-both (leb (at vs 3) 31) (both (leb (at vs 4) 7) (leb (at vs 5) 3)) (tests-leb (at vs 3) 31) (search tested)
+tests-rules rintc vs = tests-leb (at vs 1) 1
+tests-rules domain vs = tests-true
+tests-rules (matrix i t) vs = search tested
+tests-rules (side n) vs = tests-both (leb (bits a 0 4) 3) (both (leb (bits a 4 4) 3) (both (leb (bits a 8 4) 2) (leb (bits a 12 4) 2))) (tests-leb (bits a 0 4) 3) (search tested)
+  where
+    a : ℕ
+    a = at vs 2
+
+-- ---- zeros and fixed values
+
+module _ (bs : List ℕ) where
+  pub tests-fixed : (is : List Item) (p : ℕ) → Tests (fixedOk is (drop p bs)) (Fixed is bs p)
+  unfolding fixedOk part
+  tests-fixed [] p = tests-true
+  tests-fixed (fix w v ∷ is) p = rw (drop-drop w p bs) (tests-both (eqb (value (take w (drop p bs))) v) (fixedOk is (drop (p + w) bs)) (tests-eqb (value (take w (drop p bs))) v) (tests-fixed is (p + w)))
+  tests-fixed (fld w ∷ is) p = rw (drop-drop w p bs) (tests-fixed is (p + w))
+  tests-fixed (two w k ∷ is) p = rw (drop-drop w p bs) (tests-fixed is (p + w))
+  tests-fixed (to t ∷ is) p = rw (drop-drop 4 p bs) (tests-fixed is (p + 4))
+  tests-fixed (orNone t ∷ is) p = rw (drop-drop 4 p bs) (tests-fixed is (p + 4))
+
+-- ---- references
+
+module _ (ok : ℕ → ℕ → Bool) (P : ℕ → ℕ → Type 0) (names : (v t : ℕ) → Tests (ok v t) (P v t)) where
+  tests-none : (v t : ℕ) → Tests (pick (eqb v 0) true (ok v t)) ((v ≡ 0) ⊎ P v t)
+  tests-none v t = by (eqb v 0) refl
+    where
+      by : (x : Bool) → eqb v 0 ≡ x → Tests (pick x true (ok v t)) ((v ≡ 0) ⊎ P v t)
+      by true q = record { right = λ e. inl (eqb-true v 0 q); wrong = λ e. never (sym e) }
+      by false q = record { right = λ e. inr (names v t .right e); wrong = λ e. elim [ inl z ↦ eqb-false v 0 q z | inr h ↦ names v t .wrong e h ] }
+
+  pub tests-references : (is : List Item) (vs : List ℕ) → Tests (refsGood ok is vs) (References P is vs)
+  unfolding refsGood
+  tests-references [] vs = tests-true
+  tests-references (fix w v ∷ is) vs = tests-references is vs
+  tests-references (fld w ∷ is) vs = tests-references is (drop 1 vs)
+  tests-references (two w k ∷ is) vs = tests-references is (drop 2 vs)
+  tests-references (to t ∷ is) vs = tests-both (ok (at vs 0) t) (refsGood ok is (drop 1 vs)) (names (at vs 0) t) (tests-references is (drop 1 vs))
+  tests-references (orNone t ∷ is) vs = tests-both (isGood ok (orNone t) (at vs 0)) (refsGood ok is (drop 1 vs)) (tests-none (at vs 0) t) (tests-references is (drop 1 vs))
+
+-- ---- the first of a list
+
+-- each test of the second list tests the condition of the first beside it, where no test before it is true; the numbers rise from n on
+abbrev pub Mirrors : ℕ → List (ℕ × Type 0) → List (Bool × ℕ) → Type 0
+Mirrors n [] [] = Unit
+Mirrors n [] (t ∷ ts) = ⊥
+Mirrors n (c ∷ cs) [] = ⊥
+Mirrors n (c ∷ cs) (t ∷ ts) = (n < t .1) × (c .0 ≡ t .1) × (t .0 ≡ true → c .1) × (t .0 ≡ false → (c .1 → ⊥) × Mirrors (t .1) cs ts)
+
+above : (lo : ℕ) (cs : List (ℕ × Type 0)) (ts : List (Bool × ℕ)) → Mirrors lo cs ts → (n : ℕ) → 0 < n → firstOf ts ≡ n → lo < n
+above lo [] [] m n z e = absurd (omega arith)
+above lo [] (t ∷ ts) m n z e = absurd m
+above lo (c ∷ cs) [] m n z e = absurd m
+above lo (c ∷ cs) (t ∷ ts) (l, i, r, w) n z e = by (t .0) refl e (λ q. above (t .1) cs ts (w q .1) n z)
+  where
+    by : (x : Bool) → t .0 ≡ x → pick x (t .1) (firstOf ts) ≡ n → (t .0 ≡ false → firstOf ts ≡ n → t .1 < n) → lo < n
+    by true q e ih = omega arith
+    by false q e ih = omega (arith, ih q e)
+
+pub none-of : (lo : ℕ) (cs : List (ℕ × Type 0)) (ts : List (Bool × ℕ)) → Mirrors lo cs ts → (firstOf ts ≡ 0) ↔ NoneOf cs
+none-of lo [] [] m = (λ e. tt, λ h. refl)
+none-of lo [] (t ∷ ts) m = absurd m
+none-of lo (c ∷ cs) [] m = absurd m
+none-of lo (c ∷ cs) (t ∷ ts) (l, i, r, w) = by (t .0) refl (λ q. none-of (t .1) cs ts (w q .1))
+  where
+    by : (x : Bool) → t .0 ≡ x → (t .0 ≡ false → (firstOf ts ≡ 0) ↔ NoneOf cs) → (pick x (t .1) (firstOf ts) ≡ 0) ↔ NoneOf (c ∷ cs)
+    by true q ih = (λ e. absurd (omega arith), λ h. absurd (h .0 (r q)))
+    by false q ih = (λ e. (w q .0, ih q .0 e), λ h. ih q .1 (h .1))
+
+pub first-of : (lo : ℕ) (cs : List (ℕ × Type 0)) (ts : List (Bool × ℕ)) → Mirrors lo cs ts → (n : ℕ) → 0 < n → (firstOf ts ≡ n) ↔ FirstOf n cs
+first-of lo [] [] m n z = (λ e. absurd (omega arith), λ h. absurd h)
+first-of lo [] (t ∷ ts) m n z = absurd m
+first-of lo (c ∷ cs) [] m n z = absurd m
+first-of lo (c ∷ cs) (t ∷ ts) (l, i, r, w) n z = by (t .0) refl (eqb n (c .0)) refl (λ q. first-of (t .1) cs ts (w q .1) n z)
+  where
+    by : (x : Bool) → t .0 ≡ x → (y : Bool) → eqb n (c .0) ≡ y → (t .0 ≡ false → (firstOf ts ≡ n) ↔ FirstOf n cs)
+        → (pick x (t .1) (firstOf ts) ≡ n) ↔ pick y (c .1) ((c .1 → ⊥) × FirstOf n cs)
+    by true q true d ih = (λ e. r q, λ h. sym i ∙ sym (eqb-true n (c .0) d))
+    by true q false d ih = (λ e. absurd (eqb-false n (c .0) d (sym e ∙ sym i)), λ h. absurd (h .0 (r q)))
+    by false q true d ih = (λ e. absurd (let k = above (t .1) cs ts (w q .1) n z e in omega (arith, eqb-true n (c .0) d)), λ h. absurd (w q .0 h))
+    by false q false d ih = (λ e. (w q .0, ih q .0 e), λ h. ih q .1 (h .1))
+
+-- ---- what stands first is one
+
+-- P holds of the number of every condition
+abbrev pub Numbers : (ℕ → Type 0) → List (ℕ × Type 0) → Type 0
+Numbers P [] = Unit
+Numbers P (c ∷ cs) = P (c .0) × Numbers P cs
+
+pub first-one : (cs : List (ℕ × Type 0)) (n m : ℕ) → FirstOf n cs → FirstOf m cs → n ≡ m
+first-one [] n m h k = absurd h
+first-one (c ∷ cs) n m h k = by (eqb n (c .0)) refl (eqb m (c .0)) refl h k (first-one cs n m)
+  where
+    by : (x : Bool) → eqb n (c .0) ≡ x → (y : Bool) → eqb m (c .0) ≡ y → pick x (c .1) ((c .1 → ⊥) × FirstOf n cs) → pick y (c .1) ((c .1 → ⊥) × FirstOf m cs)
+        → (FirstOf n cs → FirstOf m cs → n ≡ m) → n ≡ m
+    by true q true d h k ih = eqb-true n (c .0) q ∙ sym (eqb-true m (c .0) d)
+    by true q false d h k ih = absurd (k .0 h)
+    by false q true d h k ih = absurd (h .0 k)
+    by false q false d h k ih = ih (h .1) (k .1)
+
+pub first-none : (cs : List (ℕ × Type 0)) (n : ℕ) → FirstOf n cs → NoneOf cs → ⊥
+first-none [] n h k = h
+first-none (c ∷ cs) n h k = by (eqb n (c .0)) h (first-none cs n)
+  where
+    by : (x : Bool) → pick x (c .1) ((c .1 → ⊥) × FirstOf n cs) → (FirstOf n cs → NoneOf cs → ⊥) → ⊥
+    by true h ih = k .0 h
+    by false h ih = ih (h .1) (k .1)
+
+-- its number is among those of the list
+pub first-in : (P : ℕ → Type 0) (cs : List (ℕ × Type 0)) (n : ℕ) → FirstOf n cs → Numbers P cs → P n
+first-in P [] n h a = absurd h
+first-in P (c ∷ cs) n h a = by (eqb n (c .0)) refl h (first-in P cs n)
+  where
+    by : (x : Bool) → eqb n (c .0) ≡ x → pick x (c .1) ((c .1 → ⊥) × FirstOf n cs) → (FirstOf n cs → Numbers P cs → P n) → P n
+    by true q h ih = rw (eqb-true n (c .0) q) (a .0)
+    by false q h ih = ih (h .1) (a .1)

@@ -1,0 +1,197 @@
+-- Demand 1 for build: when each answer is given, and at which place, as document 01's table has it.
+use mathlib.Core.Path.{_≡_}
+use mathlib.Core.Logic.{_↔_, _⊎_}
+use Prim.Native.Nat.{ℕ, suc, _+_, _≤_, _<_}
+use mathlib.Core.List.{List, [], _∷_}
+use mathlib.Core.Option.{Option, none, some}
+use lib.ListN.{length, drop}
+use Rattle.format.specs.Bytes.{Answer, refused, given, at, part}
+use Rattle.format.specs.Layout.{width, fields}
+use Rattle.format.specs.Table.{Table, pptt, srat, hmat, code, front, limit, headOf}
+use Rattle.format.specs.Form.{cache, memory, acpi, pci, rintc, matrix, side, typeOf}
+use Rattle.format.specs.Node.{Node, sizes}
+use Rattle.format.specs.Kind.{Kind, Processor, Resource, Cache, Memory, Acpi, Pci, Rintc, Domain, Matrix, Initiator, Target, Cell, Side, Handle, kindNumber, body}
+use Rattle.format.specs.Recipe.{Newest, aProcessor, aMatrix, aSide, other, newest, added, Meaning}
+use Rattle.format.specs.Build.{lengthOf, build}
+use Rattle.laws.specs.Words.{FirstOf, NoneOf, Among, Rules, References}
+
+-- ---- the kinds
+
+-- 16 to 18 PPTT, 32 to 35 SRAT, 48 to 54 HMAT
+abbrev pub Belongs : Table → ℕ → Type 0
+Belongs pptt b = (16 ≤ b) × (b ≤ 18)
+Belongs srat b = (32 ≤ b) × (b ≤ 35)
+Belongs hmat b = (48 ≤ b) × (b ≤ 54)
+
+-- the kind bytes, from the first to the last, directly after which a record of the kind stands, for it joins their node; none: it makes one
+abbrev pub joins : Kind → Option (ℕ × ℕ)
+joins Processor = none
+joins Resource = some (16, 17)
+joins Cache = none
+joins Memory = none
+joins Acpi = none
+joins Pci = none
+joins Rintc = none
+joins Domain = none
+joins Matrix = none
+joins Initiator = some (49, 52)
+joins Target = some (49, 52)
+joins Cell = some (49, 52)
+joins Side = none
+joins Handle = some (53, 54)
+
+-- one that joins stands directly after a record of kind byte b
+abbrev pub After : Option (ℕ × ℕ) → ℕ → Type 0
+After none b = Unit
+After (some j) b = (j .0 ≤ b) × (b ≤ j .1)
+
+-- of the nodes ns, those before the record's own node
+abbrev pub earlier : Option (ℕ × ℕ) → List Node → List Node
+earlier none ns = ns
+earlier (some j) ns = drop 1 ns
+
+-- ---- what a record's node has
+
+-- how many entries its list has
+abbrev pub entries : Newest → ℕ
+entries (aProcessor n us ns) = n
+entries (aMatrix i t us ns) = 0
+entries (aSide n us ns) = n
+entries other = 0
+
+-- I and T
+abbrev pub counts : Newest → ℕ × ℕ
+counts (aProcessor n us ns) = (0, 0)
+counts (aMatrix i t us ns) = (i, t)
+counts (aSide n us ns) = (0, 0)
+counts other = (0, 0)
+
+-- ---- a record of kind k with the fields vs, behind nodes of which the newest is n
+
+-- ranges and bit rules; indices below I and T
+abbrev pub Ranged : Kind → List ℕ → Newest → Type 0
+Ranged Processor vs n = Unit
+Ranged Resource vs n = Unit
+Ranged Cache vs n = Rules cache vs
+Ranged Memory vs n = Rules memory vs
+Ranged Acpi vs n = Rules acpi vs
+Ranged Pci vs n = Rules pci vs
+Ranged Rintc vs n = Rules rintc vs
+Ranged Domain vs n = Unit
+Ranged Matrix vs n = Rules (matrix (at vs 4) (at vs 5)) vs
+Ranged Initiator vs n = at vs 0 < counts n .0
+Ranged Target vs n = at vs 0 < counts n .1
+Ranged Cell vs n = (at vs 0 < counts n .0) × (at vs 1 < counts n .1)
+Ranged Side vs n = Rules (side 0) vs
+Ranged Handle vs n = Unit
+
+-- the 59th resource, the 65,536th SMBIOS handle
+abbrev pub Full : Kind → Newest → Type 0
+Full k n = ((k ≡ Resource) × (58 ≤ entries n)) ⊎ ((k ≡ Handle) × (65535 ≤ entries n))
+
+-- v is the ordinal, counted from 1, of one of the nodes ns, and that is of type ty
+abbrev pub Names : List Node → ℕ → ℕ → Type 0
+Names ns v ty = Among (λ n before. (v ≡ suc (length before)) × (typeOf (n .form) ≡ ty)) ns
+
+-- ---- the faults in order
+
+-- of the head
+abbrev pub headFaults : List ℕ → List (ℕ × Type 0)
+headFaults r = (1, at r 0 ≡ 1 → ⊥) ∷ (3, length r < 28) ∷ (5, 2 < at r 1) ∷ []
+
+-- of a whole record of kind k with the fields vs, behind the nodes ns; b: the kind byte of the record directly before
+abbrev pub recordFaults : Table → ℕ → List Node → Kind → List ℕ → List (ℕ × Type 0)
+recordFaults t b ns k vs =
+    (4, After (joins k) b → ⊥)
+    ∷ (5, Ranged k vs (newest ns) → ⊥)
+    ∷ (6, References (Names (earlier (joins k) ns)) (body k) vs → ⊥)
+    ∷ (7, Full k (newest ns))
+    ∷ (8, limit < front t + sizes (added k vs ns)) ∷ []
+
+-- the fields of a body behind the kind byte at p
+abbrev pub fieldsAt : List ℕ → ℕ → Kind → List ℕ
+fieldsAt r p k = fields (body k) (drop (suc p) r)
+
+-- where the body of a record at p ends
+abbrev pub endOf : ℕ → Kind → ℕ
+endOf p k = suc p + width (body k)
+
+-- of a record of kind k at p, behind the nodes ns; the record directly before starts at q
+abbrev pub faults : Table → List ℕ → ℕ → List Node → ℕ → Kind → List (ℕ × Type 0)
+faults t r q ns p k = (3, length r < endOf p k) ∷ recordFaults t (at r q) ns k (fieldsAt r p k)
+
+-- ---- the records, one after the other
+
+-- the head is whole, and names table t
+abbrev pub Headed : Table → List ℕ → Type 0
+Headed t r = (at r 0 ≡ 1) × (28 ≤ length r) × (at r 1 ≡ code t)
+
+-- a kind byte of table t, that of kind k
+abbrev pub OfKind : Table → ℕ → Kind → Type 0
+OfKind t b k = Belongs t b × (b ≡ kindNumber k)
+
+-- all records of r between the head and place p are without fault, and mean the nodes ns; the last of them, or the head, starts at q
+pub data Reaches (t : Table) (r : List ℕ) : ℕ → List Node → ℕ → Type 0 where
+  start : Reaches t r 0 [] 28
+  next : {q p : ℕ} {ns : List Node} → Reaches t r q ns p → (k : Kind) → OfKind t (at r p) k → NoneOf (faults t r q ns p k)
+      → Reaches t r p (added k (fieldsAt r p k) ns) (endOf p k)
+
+-- a record stands at p, and none before it is faulty
+pub record Comes (t : Table) (r : List ℕ) (q : ℕ) (ns : List Node) (p : ℕ) : Type 0 where
+  pub head : Headed t r
+  pub reached : Reaches t r q ns p
+  pub here : p < length r
+
+-- r means m: no record of it is faulty
+pub record Says (r : List ℕ) (m : Meaning) : Type 0 where
+  pub head : Headed (m .head .table) r
+  pub identity : m .head ≡ headOf (m .head .table) (part r 2 26)
+  pub last : ℕ
+  pub reached : Reaches (m .head .table) r last (m .nodes) (length r)
+
+-- ---- each number
+
+-- 1, 3, 5 of the head
+abbrev pub AtHead : ℕ → List ℕ → ℕ → Type 0
+AtHead n r p = FirstOf n (headFaults r) × (p ≡ 0)
+
+-- 2 of the record at p
+abbrev pub BadKind : List ℕ → ℕ → Type 0
+BadKind r p = (t : Table) × (q : ℕ) × (ns : List Node) × Comes t r q ns p × (Belongs t (at r p) → ⊥)
+
+-- 3 to 8 of the record at p
+abbrev pub AtRecord : ℕ → List ℕ → ℕ → Type 0
+AtRecord n r p = (t : Table) × (q : ℕ) × (ns : List Node) × (k : Kind) × Comes t r q ns p × OfKind t (at r p) k × FirstOf n (faults t r q ns p k)
+
+-- 9: the table of what r means is longer than the room, and that is the place
+abbrev pub NoRoom : List ℕ → ℕ → ℕ → Type 0
+NoRoom r room p = (m : Meaning) × Says r m × (room < lengthOf m) × (p ≡ lengthOf m)
+
+-- the length n of the table of what r means, which has room
+abbrev pub HasRoom : List ℕ → ℕ → ℕ → Type 0
+HasRoom r room n = (m : Meaning) × Says r m × (lengthOf m ≤ room) × (n ≡ lengthOf m)
+
+pub record Exactly (r : List ℕ) (room : ℕ) : Type 0 where
+  pub noHead : (p : ℕ) → (build r room ≡ refused 1 p) ↔ AtHead 1 r p
+  pub badKind : (p : ℕ) → (build r room ≡ refused 2 p) ↔ BadKind r p
+  pub cut : (p : ℕ) → (build r room ≡ refused 3 p) ↔ (AtHead 3 r p ⊎ AtRecord 3 r p)
+  pub misplaced : (p : ℕ) → (build r room ≡ refused 4 p) ↔ AtRecord 4 r p
+  pub badField : (p : ℕ) → (build r room ≡ refused 5 p) ↔ (AtHead 5 r p ⊎ AtRecord 5 r p)
+  pub badRef : (p : ℕ) → (build r room ≡ refused 6 p) ↔ AtRecord 6 r p
+  pub fullNode : (p : ℕ) → (build r room ≡ refused 7 p) ↔ AtRecord 7 r p
+  pub tooLong : (p : ℕ) → (build r room ≡ refused 8 p) ↔ AtRecord 8 r p
+  pub noRoom : (p : ℕ) → (build r room ≡ refused 9 p) ↔ NoRoom r room p
+  pub length : (n : ℕ) → (build r room ≡ given n) ↔ HasRoom r room n
+
+-- ---- exactly one answer
+
+-- what has to hold for an answer
+abbrev pub Earned : List ℕ → ℕ → Answer ℕ → Type 0
+Earned r room (refused n p) = AtHead n r p ⊎ (((n ≡ 2) × BadKind r p) ⊎ (AtRecord n r p ⊎ ((n ≡ 9) × NoRoom r room p)))
+Earned r room (given n) = HasRoom r room n
+
+-- it holds for the answer of build, and for no other; a refusal's number is one of the list's
+pub record One (r : List ℕ) (room : ℕ) : Type 0 where
+  pub earned : Earned r room (build r room)
+  pub only : (a : Answer ℕ) → Earned r room a → build r room ≡ a
+  pub numbers : (n p : ℕ) → build r room ≡ refused n p → (1 ≤ n) × (n ≤ 9)
