@@ -41,7 +41,7 @@ kind-back Cell = refl
 kind-back Side = refl
 kind-back Handle = refl
 
-cut-skip : (t : Table) (k p : ℕ) (bs : List ℕ) → cut t k p bs ≡ cut t 0 (p + k) (drop k bs)
+pub cut-skip : (t : Table) (k p : ℕ) (bs : List ℕ) → cut t k p bs ≡ cut t 0 (p + k) (drop k bs)
 unfolding cut
 cut-skip t zero p bs = rw add-zero
 cut-skip t (suc k) p [] = refl

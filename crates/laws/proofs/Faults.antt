@@ -18,8 +18,8 @@ use Rattle.format.specs.Kind.{Kind, Processor, Resource, Cache, Memory, Acpi, P
 use Rattle.format.specs.Recipe.{Newest, aProcessor, aMatrix, aSide, other, newestAs, newest, resource, handle, setting, step, added, fault}
 use Rattle.laws.specs.Words.{FirstOf, NoneOf, References}
 use Rattle.laws.specs.Demand1.{Belongs, joins, After, earlier, counts, Ranged, Full, Names, recordFaults, faults, OfKind}
-use Rattle.laws.proofs.Finds.{All, found-test, found-in}
-use Rattle.laws.proofs.Words.{never, Tests, found-none, among-none, among-cases, among-more, tests-leb, tests-ltb, tests-true, tests-not, tests-both, tests-rules, tests-references, Mirrors, none-of, first-of}
+use Rattle.laws.proofs.Finds.{never, All, found-test, found-in}
+use Rattle.laws.proofs.Words.{Tests, found-none, among-none, among-cases, among-more, tests-leb, tests-ltb, tests-true, tests-not, tests-both, tests-rules, tests-references, Mirrors, none-of, first-of}
 
 -- ---- the kind of a byte
 

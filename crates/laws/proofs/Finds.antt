@@ -10,6 +10,10 @@ use lib.Dec.{eqb, lit≤}
 use borrow.Author.Tests.{eqb-true}
 use Rattle.format.specs.Bytes.{pick, firstOf, find, Answer, refused, given, andThen, orRefused, unless}
 
+-- a test cannot fail and pass
+pub never : {A : Type 0} → false ≡ true → A
+never h = absurd (let z : _≡_ {A = ℕ} 0 1 = cc in omega arith)
+
 -- ---- lists
 
 -- P holds of every element

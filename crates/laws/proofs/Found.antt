@@ -18,12 +18,13 @@ use Rattle.format.specs.Row.{Row, processors, caches, memories, initiators, rin
 use Rattle.format.specs.Node.{Node, bytes, nodeAt, Entry, atPlace, atOrdinal, placeOf, ordinalOf}
 use Rattle.format.specs.Read.{sizeIn, sound, recordFault}
 use Rattle.laws.specs.Rename.{rename}
+use Rattle.laws.specs.Demand3.{rowFor}
 use Rattle.laws.proofs.Bytes.{value-lt, bytes-take, bytes-drop}
 use Rattle.laws.proofs.Finds.{none-first}
 use Rattle.laws.proofs.Lays.{both-true, Fit, fit-length, SaneItem, Sane, fields-fit, fields-rename, lay-rename, fit-rename}
 use Rattle.laws.proofs.Nodes.{width-layout, bytes-node}
 use Rattle.laws.proofs.Links.{Rising, ordinal-below, back, place-zero, ordinal-zero, refs-kept}
-use Rattle.laws.proofs.Shapes.{Within, rowFor, tableFor, type-for, ranges-rename}
+use Rattle.laws.proofs.Shapes.{Within, tableFor, type-for, ranges-rename}
 use Rattle.laws.proofs.Good.{GoodNode}
 use Rattle.laws.proofs.Masks.{row-then, row-home}
 

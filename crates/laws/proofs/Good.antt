@@ -20,11 +20,12 @@ use Rattle.format.specs.Build.{records}
 use Rattle.format.specs.Read.{sizeIn, typeIn, framed, Frames, ended, badFrame, framedAt, frames, sound, recordFault, Seen, entryOf, push, seenAs, walk, shown, fieldsOf}
 use Rattle.format.specs.Out.{every, nodesFrom}
 use Rattle.laws.specs.Rename.{rename}
+use Rattle.laws.specs.Demand3.{rowFor}
 use Rattle.laws.proofs.Lays.{Fit, fit-length, fields-lay, fixed-lay, lay-rename, fields-rename, fit-rename}
 use Rattle.laws.proofs.Nodes.{length-record}
 use Rattle.laws.proofs.Links.{Rising, place-below, there, place-zero, ordinal-zero, starts-rise, refs-kept, size-pos}
 use Rattle.laws.proofs.Masks.{row-when}
-use Rattle.laws.proofs.Shapes.{Within, rowFor, tableFor, least-size, type-in, size-in, row-in, form-in, ranges-rename}
+use Rattle.laws.proofs.Shapes.{Within, tableFor, least-size, type-in, size-in, row-in, form-in, ranges-rename}
 
 -- ---- what holds of a node, behind records with the entries es
 

@@ -14,7 +14,7 @@ use Rattle.format.specs.Form.{Form, processor, cache, memory, acpi, pci, rintc,
 use Rattle.format.specs.Node.{Node, node, Entry, sizes, starts, atOrdinal}
 use Rattle.format.specs.Kind.{Kind, Processor, Resource, Cache, Memory, Acpi, Pci, Rintc, Domain, Matrix, Initiator, Target, Cell, Side, Handle, body}
 use Rattle.format.specs.Recipe.{Step, Newest, aProcessor, aMatrix, aSide, other, newestAs, newest, resource, handle, setting, unset, step, added, fault}
-use Rattle.laws.proofs.Finds.{none-first}
+use Rattle.laws.proofs.Finds.{never, none-first}
 use Rattle.laws.proofs.Lays.{Fit, FitItem, both-true, fit-length}
 use Rattle.laws.proofs.Shapes.{size-below, plain-fld, plain-matrix}
 use Rattle.laws.proofs.Fits.{second, third, fix-fit, zero-fit, fld-fit, wider, fit-append, good-append, replicate-snoc, plain-good, fit-same, set-front, set-behind}
@@ -228,9 +228,6 @@ kindHome Target = hmat
 kindHome Cell = hmat
 kindHome Side = hmat
 kindHome Handle = hmat
-
-never : {A : Type 0} → false ≡ true → A
-never h = absurd (let z : _≡_ {A = ℕ} 0 1 = cc in omega arith)
 
 module _ (vs : List ℕ) where
   join-resource : {ns : List Node} {x : Newest} → View ns x → resource vs x .placed ≡ true → resource vs x .full ≡ false

@@ -18,8 +18,8 @@ use Rattle.format.specs.Node.{Entry, atPlace}
 use Rattle.format.specs.Read.{signed, lengthIn, own, headFault, judgeHead, typeIn, framed, sound, recordFault}
 use Rattle.laws.specs.Words.{FirstOf, NoneOf, Fixed, References}
 use Rattle.laws.specs.Demand1Read.{Signed, Long, headerFaults, Known, Sound, Starts, bodyFaults, Headed, AtHeader, RowIs}
-use Rattle.laws.proofs.Finds.{All, found-test}
-use Rattle.laws.proofs.Words.{never, Tests, found-none, among-none, among-cases, among-more, tests-leb, tests-eqb, tests-not, tests-both, tests-as, tests-same, tests-fixed, tests-rules, tests-references, Mirrors, none-of, first-of, first-one, first-none, first-in}
+use Rattle.laws.proofs.Finds.{never, All, found-test}
+use Rattle.laws.proofs.Words.{Tests, found-none, among-none, among-cases, among-more, tests-leb, tests-eqb, tests-not, tests-both, tests-as, tests-same, tests-fixed, tests-rules, tests-references, Mirrors, none-of, first-of, first-one, first-none, first-in}
 use Rattle.laws.proofs.Links.{Rising}
 use Rattle.laws.proofs.Masks.{row-fits, known-row}
 

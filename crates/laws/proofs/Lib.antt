@@ -6,6 +6,7 @@ pub mod Offsets
 pub mod Joins
 pub mod Words
 pub mod Nodes
+pub mod Changes
 pub mod Links
 pub mod Shapes
 pub mod Fits

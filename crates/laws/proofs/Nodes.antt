@@ -14,12 +14,12 @@ use Rattle.format.specs.Node.{Node, node, bytes, nodeAt}
 use Rattle.format.specs.Read.{sound}
 use Rattle.laws.proofs.Lays.{Fit, both-true, length-lay, fields-lay, lay-fields}
 
-width-append : (is js : List Item) → width (is ++ js) ≡ width is + width js
+pub width-append : (is js : List Item) → width (is ++ js) ≡ width is + width js
 unfolding width
 width-append [] js = omega arith
 width-append (i ∷ is) js = rw (width-append is js) (omega arith)
 
-width-replicate : (n : ℕ) (i : Item) → width (replicate n i) ≡ n * wide i
+pub width-replicate : (n : ℕ) (i : Item) → width (replicate n i) ≡ n * wide i
 unfolding width
 width-replicate zero i = omega arith
 width-replicate (suc n) i = rw (width-replicate n i, suc-mul) (omega arith)

@@ -7,6 +7,7 @@ use native.Mathlib.Nat.{zero-add, suc-add}
 use lib.ListN.{length, take, drop, length-append}
 use lib.Seq.{drop-append-add, drop-append-le, take-append-le}
 use Rattle.format.specs.Bytes.{over, part, sum}
+use Rattle.laws.proofs.Bytes.{over-all}
 
 -- ---- joined lists
 
@@ -29,6 +30,10 @@ over-left ps qs [] k h = rw (over-nil, over-nil)
 over-left [] qs (c ∷ cs) k h = absurd (omega arith)
 over-left (p ∷ ps) qs (c ∷ cs) zero h = rw (over-left ps qs cs zero (omega arith))
 over-left (p ∷ ps) qs (c ∷ cs) (suc k) h = rw (over-left ps qs (c ∷ cs) k (omega arith))
+
+-- all of the first of two lists
+pub over-first : (ps qs cs : List ℕ) → length cs ≡ length ps → over (ps ++ qs) 0 cs ≡ cs ++ qs
+over-first ps qs cs e = over-left ps qs cs 0 (omega arith) ∙ rw (over-all ps cs e)
 
 -- ---- what was laid before
 

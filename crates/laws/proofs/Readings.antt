@@ -18,6 +18,7 @@ use Rattle.format.specs.Node.{Entry, entry, sizes, starts, atPlace}
 use Rattle.format.specs.Read.{lengthIn, own, judgeHead, typeIn, sizeIn, framed, Frames, ended, badFrame, framedAt, frames, recordFault, Seen, seenAs, entryOf, push, walk, walked, accept, Reading, reading, fieldsOf, partOf, chosen, readingOf, read, readPart}
 use Rattle.laws.specs.Words.{FirstOf, NoneOf}
 use Rattle.laws.specs.Demand1Read.{headerFaults, sizeAt, bodyAt, Framed, bodyFaults, recordFaults, Passes, start, next, Headed, Accepts, AtHeader, AtRecord, NoRecord, RowIs, Answers, EarnedRead, ExactlyAccept, ExactlyRead, OneRead}
+use Rattle.laws.proofs.Walks.{least-pos}
 use Rattle.laws.proofs.Finds.{All}
 use Rattle.laws.proofs.Words.{Tests, tests-leb, tests-both, tests-as, first-in}
 use Rattle.laws.proofs.Bytes.{length-part}
@@ -108,11 +109,6 @@ walk-right t rev mask es (framedAt p bs fs) ss e =
     rw (← i) ((refl, refl), walk-right t rev mask (entryOf (seenAs t rev mask p bs) ∷ es) fs us w)
 
 -- ---- the frames from a place on
-
-least-pos : (t : Table) → 0 < least t
-least-pos pptt = omega arith
-least-pos srat = omega arith
-least-pos hmat = omega arith
 
 front-pos : (t : Table) → 0 < front t
 unfolding sizes starts

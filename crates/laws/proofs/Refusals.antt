@@ -21,19 +21,13 @@ use Rattle.format.specs.Build.{lengthOf, fitting, build}
 use Rattle.laws.specs.Words.{FirstOf, NoneOf}
 use Rattle.laws.specs.Demand1.{Belongs, headFaults, recordFaults, fieldsAt, endOf, faults, Headed, OfKind, Reaches, start, next, Comes, Says, AtHead, BadKind, AtRecord, NoRoom, Earned, Exactly, One}
 use Rattle.laws.proofs.Finds.{found-test}
+use Rattle.laws.proofs.Calls.{cut-skip}
+use Rattle.laws.proofs.Settings.{table-back}
 use Rattle.laws.proofs.Grows.{passed}
 use Rattle.laws.proofs.Words.{found-none, first-one, first-none, Numbers, first-in}
 use Rattle.laws.proofs.Faults.{kind-then, kind-none, kind-is, Follows, follows-next, faultless, faulty}
 
 -- ---- cutting at a place
-
-cut-skip : (t : Table) (k p : ℕ) (bs : List ℕ) → cut t k p bs ≡ cut t 0 (p + k) (drop k bs)
-unfolding cut
-cut-skip t zero p bs = rw add-zero
-cut-skip t (suc k) p [] = refl
-cut-skip t (suc k) p (b ∷ bs) =
-    let e : suc p + k ≡ p + suc k = omega arith in
-    cut-skip t k (suc p) bs ∙ rw e
 
 module _ (t : Table) (r : List ℕ) (p : ℕ) where
   -- what is cut from p on
@@ -251,11 +245,6 @@ module _ (r : List ℕ) where
 
   table-one : (t u : Table) → at r 1 ≡ code t → at r 1 ≡ code u → t ≡ u
   table-one t u a b = let e : some t ≡ some u = sym (table-back t) ∙ (ap tableOf (sym a ∙ b) ∙ table-back u) in cc
-    where
-      table-back : (t : Table) → tableOf (code t) ≡ some t
-      table-back pptt = refl
-      table-back srat = refl
-      table-back hmat = refl
 
   headed-is : (t : Table) → Headed t r → headed r ≡ given (headOf t (part r 2 26))
   headed-is t hd = by (headed r) head-outcome

@@ -171,7 +171,7 @@ all-lead v is t (n ∷ ns) g l =
 
 -- ---- the recipe of good nodes means these nodes
 
-table-back : (t : Table) → tableOf (code t) ≡ some t
+pub table-back : (t : Table) → tableOf (code t) ≡ some t
 table-back pptt = refl
 table-back srat = refl
 table-back hmat = refl

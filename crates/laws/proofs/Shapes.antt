@@ -15,6 +15,7 @@ use Rattle.format.specs.Form.{Form, processor, cache, memory, acpi, pci, rintc,
 use Rattle.format.specs.Row.{Row, processors, caches, memories, initiators, rintcs, domains, matrices, sides, home, rowType, column, matches, formIn}
 use Rattle.format.specs.Read.{typeIn, sizeIn}
 use Rattle.laws.specs.Rename.{rename}
+use Rattle.laws.specs.Demand3.{rowFor}
 use Rattle.laws.proofs.Bytes.{value-le}
 use Rattle.laws.proofs.Lays.{rest-length}
 use Rattle.laws.proofs.Nodes.{length-record}
@@ -31,18 +32,7 @@ Within domain = Unit
 Within (matrix i t) = (i ≤ 255) × (t ≤ 255)
 Within (side n) = n ≤ 65535
 
--- the row that a form's record matches, and its table
-abbrev pub rowFor : Form → Row
-rowFor (processor n) = processors
-rowFor cache = caches
-rowFor memory = memories
-rowFor acpi = initiators
-rowFor pci = initiators
-rowFor rintc = rintcs
-rowFor domain = domains
-rowFor (matrix i t) = matrices
-rowFor (side n) = sides
-
+-- the table that a form's record belongs to
 abbrev pub tableFor : Form → Table
 tableFor f = home (rowFor f)
 

@@ -22,7 +22,6 @@ use Rattle.laws.specs.Demand3.{rowFor, answerOn, Shows}
 use Rattle.laws.proofs.Bytes.{value-le}
 use Rattle.laws.proofs.Nodes.{length-bytes}
 use Rattle.laws.proofs.Links.{starts-rise}
-use Rattle.laws.proofs.Shapes as shapes
 use Rattle.laws.proofs.Good.{GoodNode, Good, seenOf, seenAll, walk-good, form-rec, fields-seen}
 use Rattle.laws.proofs.Heads.{judged, walked-is, length-header, length-records}
 use Rattle.laws.proofs.Builds.{Means, meaning-good}
@@ -102,17 +101,6 @@ past-end [] k l = refl
 past-end (x ∷ xs) zero l = absurd (omega arith)
 past-end (x ∷ xs) (suc k) l = past-end xs k (omega arith)
 
-same-row : (f : Form) → shapes.rowFor f ≡ rowFor f
-same-row (processor n) = refl
-same-row cache = refl
-same-row memory = refl
-same-row acpi = refl
-same-row pci = refl
-same-row rintc = refl
-same-row domain = refl
-same-row (matrix i t) = refl
-same-row (side n) = refl
-
 -- ---- the table of what a recipe means
 
 module _ (r : List ℕ) (m : Meaning) (b : Bytes r) (says : Says r m) where
@@ -169,7 +157,6 @@ module _ (r : List ℕ) (m : Meaning) (b : Bytes r) (says : Says r m) where
           count,
           length-bytes (placeOf es) n,
           fields-seen (front t + sizes before) es (starts-rise t before) node-short t n node-good,
-          same-row (n .form),
         )
 
     node-list : readPart (table r) every (length before) ≡ listIn (n .form) (bytes (placeOf (starts (m .head .table) before)) n)

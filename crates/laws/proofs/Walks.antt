@@ -37,7 +37,7 @@ pub record Step (t : Table) (rev mask p : ℕ) (es : List Entry) (bs : List ℕ)
   pub fine : recordFault (atPlace es) (s .row) (s .body) ≡ 0
   pub rest : walk t rev mask (entryOf s ∷ es) (frames t 0 (p + length (s .body)) (drop (length (s .body)) bs)) ≡ given ss
 
-least-pos : (t : Table) → 0 < least t
+pub least-pos : (t : Table) → 0 < least t
 least-pos pptt = omega arith
 least-pos srat = omega arith
 least-pos hmat = omega arith

@@ -13,16 +13,13 @@ use borrow.Author.Tests.{eqb-true, eqb-false, leb-true, leb-false, ltb-true, ltb
 use Rattle.format.specs.Bytes.{pick, both, all, firstOf, find, at, value, part, same, bits}
 use Rattle.format.specs.Layout.{Item, fix, fld, two, to, orNone, fixedOk, isGood, refsGood}
 use Rattle.format.specs.Form.{Form, processor, cache, memory, acpi, pci, rintc, domain, matrix, side, kept, cacheAttributes, matrixFlags, sideAttributes, ranges}
-use Rattle.laws.proofs.Finds.{All}
+use Rattle.laws.proofs.Finds.{never, All}
 use Rattle.laws.specs.Words.{FirstOf, NoneOf, Among, Attributes, Rules, Fixed, References}
 
 -- a test is true where P holds, and false where it does not
 pub record Tests (b : Bool) (P : Type 0) : Type 0 where
   pub right : b ≡ true → P
   pub wrong : b ≡ false → P → ⊥
-
-pub never : {A : Type 0} → false ≡ true → A
-never h = absurd (let z : _≡_ {A = ℕ} 0 1 = cc in omega arith)
 
 pub tests-leb : (a b : ℕ) → Tests (leb a b) (a ≤ b)
 tests-leb a b = record { right = leb-true a b; wrong = λ e h. omega (arith, leb-false a b e) }

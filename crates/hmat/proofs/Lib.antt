@@ -1,0 +1,5 @@
+pub mod Places
+pub mod Flags
+pub mod Matrices
+pub mod Sides
+pub mod Shows
