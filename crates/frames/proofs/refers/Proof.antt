@@ -1,0 +1,17 @@
+-- `refers` meets its contract: the place is before the own record, and the start of one of the type.
+use borrow.Author.Needs.{needs}
+use borrow.Author.Tests.{lt-ltb, le-ltb}
+use Rattle.frames.specs.Frames.{refers}
+use Rattle.frames.proofs.refers.Statement.{statement}
+use Rattle.frames.proofs.refers.Tie as tie
+
+returns : tie.Need-returns
+unfolding refers
+returns c = rw (le-ltb _ _ (c .if1 .taken))
+
+returns-2 : tie.Need-returns-2
+unfolding refers
+returns-2 c = rw (lt-ltb _ _ (c .before .if1 .left)) (c .starts .ensures)
+
+pub refers-spec : {M : Type 1} → statement M
+refers-spec = tie.close (tie.spec returns (λ c κs. search needs) returns-2)

@@ -1,0 +1,5 @@
+pub mod Refs
+pub mod Walks
+pub mod Listing
+pub mod Fields
+pub mod Unique

@@ -1,0 +1,119 @@
+-- What an answer stands for determines the answer: it can be read back, so two answers that meet one contract are the same.
+use mathlib.Core.Path.{_≡_, refl, sym, ap, _∙_}
+use Prim.Native.Nat.{ℕ}
+use mathlib.Core.List.{List, [], _∷_}
+use mathlib.Core.Option.{Option, none, some}
+use lib.Dec.{eqb}
+use Rattle.format.specs.Bytes.{pick, Answer, refused, given, at}
+use Rattle.format.specs.Row.{Row, processors, caches, memories, initiators, rintcs, domains, matrices, sides}
+use Rattle.format.specs.Read.{Reading, reading}
+use Rattle.srat.specs.declared.Handle.{Handle}
+use Rattle.srat.specs.declared.Handle.the-variants.{Acpi, Pci}
+use Rattle.frames.specs.declared.Refusal.{Refusal}
+use Rattle.frames.specs.declared.Refusal.the-variants.{Short, BadSign, BadLength, BadSum, BadFront, BadFrame, BadRecord, BadRef, NoRecord}
+use Rattle.frames.specs.Refusals.{refusalNumber, refusalPlace}
+use Rattle.read.specs.declared.Node.{Node}
+use Rattle.read.specs.declared.Node.the-variants as node
+use Rattle.read.specs.declared.Shown.{Shown}
+use Rattle.read.specs.declared.Accepted.{Accepted}
+use Rattle.read.specs.declared.Accepted.the-variants as accepted
+use Rattle.read.specs.declared.Reply.{Reply}
+use Rattle.read.specs.declared.Reply.the-variants as reply
+use Rattle.read.specs.Answers.{rowIn, fieldsIn, shownAs, acceptedAs, shown}
+
+-- ---- refusals
+
+abbrev refusalOf : ℕ → ℕ → Refusal
+refusalOf k p =
+    pick (eqb k 20) Short
+    (pick (eqb k 21) BadSign
+    (pick (eqb k 22) BadLength
+    (pick (eqb k 23) BadSum
+    (pick (eqb k 24) BadFront
+    (pick (eqb k 25) (BadFrame p)
+    (pick (eqb k 26) (BadRecord p)
+    (pick (eqb k 27) (BadRef p) (NoRecord p))))))))
+
+refusal-back : (r : Refusal) → refusalOf (refusalNumber r) (refusalPlace r) ≡ r
+refusal-back Short = refl
+refusal-back BadSign = refl
+refusal-back BadLength = refl
+refusal-back BadSum = refl
+refusal-back BadFront = refl
+refusal-back (BadFrame p) = refl
+refusal-back (BadRecord p) = refl
+refusal-back (BadRef p) = refl
+refusal-back (NoRecord n) = refl
+
+-- ---- records
+
+-- type 0 ACPI: hid, uid; else PCI: segment, bus, device, function
+abbrev handleOf : List ℕ → Handle
+handleOf vs = pick (eqb (at vs 0) 0) (Acpi (at vs 2) (at vs 3)) (Pci (at vs 2) (at vs 3) (at vs 4) (at vs 5))
+
+abbrev nodeOf : Option Row → List ℕ → Node
+nodeOf none vs = node.Unknown
+nodeOf (some processors) vs = node.Processor (record { flags = at vs 0; parent = record { 0 = at vs 1 }; «acpi_processor_id» = at vs 2; resources = at vs 3 })
+nodeOf (some caches) vs =
+    node.Cache (record { flags = at vs 0; «next_level» = record { 0 = at vs 1 }; size = at vs 2; «set_count» = at vs 3; associativity = at vs 4; attributes = at vs 5; «line_size» = at vs 6; id = at vs 7 })
+nodeOf (some memories) vs = node.Memory (record { «proximity_domain» = at vs 0; «base_address» = at vs 1; length = at vs 2; flags = at vs 3 })
+nodeOf (some initiators) vs = node.Initiator (record { «proximity_domain» = at vs 1; handle = handleOf vs; flags = pick (eqb (at vs 0) 0) (at vs 4) (at vs 6) })
+nodeOf (some rintcs) vs = node.Rintc (record { «acpi_processor_uid» = at vs 0; flags = at vs 1; «clock_domain» = at vs 2 })
+nodeOf (some domains) vs = node.Domain (record { «proximity_domain_initiator» = at vs 0; «proximity_domain_memory» = at vs 1 })
+nodeOf (some matrices) vs =
+    node.Matrix (record { flags = at vs 0; «data_type» = at vs 1; «min_transfer_size» = at vs 2; «entry_base_unit» = at vs 5; initiators = at vs 3; targets = at vs 4 })
+nodeOf (some sides) vs = node.Side (record { «proximity_domain» = at vs 0; «cache_size» = at vs 1; attributes = at vs 2; «smbios_handles» = at vs 3 })
+
+initiator-back : (d f : ℕ) (h : Handle) → nodeOf (some initiators) (fieldsIn (node.Initiator (record { «proximity_domain» = d; handle = h; flags = f }))) ≡ node.Initiator (record { «proximity_domain» = d; handle = h; flags = f })
+initiator-back d f (Acpi h u) = refl
+initiator-back d f (Pci s b v k) = refl
+
+node-back : (n : Node) → nodeOf (rowIn n) (fieldsIn n) ≡ n
+node-back (node.Processor n) = refl
+node-back (node.Cache n) = refl
+node-back (node.Memory n) = refl
+node-back (node.Initiator n) = initiator-back (n .«proximity_domain») (n .flags) (n .handle)
+node-back (node.Rintc n) = refl
+node-back (node.Domain n) = refl
+node-back (node.Matrix n) = refl
+node-back (node.Side n) = refl
+node-back node.Unknown = refl
+
+abbrev recordOf : Reading → Shown
+recordOf (reading count kind place length row fields) = record { kind = kind; place = place; length = length; node = nodeOf row fields }
+
+record-back : (count : ℕ) (s : Shown) → recordOf (shownAs count s) ≡ s
+record-back count s = ap (λ (n : Node). record { kind = s .kind; place = s .place; length = s .length; node = n }) (node-back (s .node))
+
+-- ---- answers
+
+abbrev acceptedOf : Answer ℕ → Accepted
+acceptedOf (refused k p) = accepted.Refused (refusalOf k p)
+acceptedOf (given n) = accepted.Records n
+
+accepted-back : (a : Accepted) → acceptedOf (acceptedAs a) ≡ a
+accepted-back (accepted.Records n) = refl
+accepted-back (accepted.Refused r) = ap accepted.Refused (refusal-back r)
+
+abbrev countOf : Reading → ℕ
+countOf (reading count kind place length row fields) = count
+
+abbrev replyOf : Answer Reading → Reply
+replyOf (refused k p) = reply.Refused (refusalOf k p)
+replyOf (given r) = reply.Record (countOf r) (recordOf r)
+
+reply-back : (a : Reply) → replyOf (shown a) ≡ a
+reply-back (reply.Record count s) = ap (reply.Record count) (record-back count s)
+reply-back (reply.Refused r) = ap reply.Refused (refusal-back r)
+
+-- two answers of `record_at` on one call are the same
+pub one-record : (x y : Shown) → ((count : ℕ) → shownAs count x ≡ shownAs count y) → x ≡ y
+one-record x y e = sym (record-back 0 x) ∙ ap recordOf (e 0) ∙ record-back 0 y
+
+-- two answers of `accept` on one call are the same
+pub one-judgement : (x y : Accepted) → acceptedAs x ≡ acceptedAs y → x ≡ y
+one-judgement x y e = sym (accepted-back x) ∙ ap acceptedOf e ∙ accepted-back y
+
+-- two answers of `read` on one call are the same
+pub one-answer : (x y : Reply) → shown x ≡ shown y → x ≡ y
+one-answer x y e = sym (reply-back x) ∙ ap replyOf e ∙ reply-back y

@@ -1,0 +1,79 @@
+-- `node_in` meets its contract: of each row the node that its type reads.
+use mathlib.Core.Path.{refl, _∙_}
+use borrow.Author.Needs.{needs}
+use Rattle.format.specs.Bytes.{part}
+use Rattle.format.specs.Row.{caches, memories, initiators, rintcs, domains, formIn}
+use Rattle.format.specs.Read.{shown, fieldsOf}
+use Rattle.pptt.specs.Cache.{cacheNode}
+use Rattle.srat.specs.Srat.{memoryNode, initiatorNode, rintcNode}
+use Rattle.hmat.specs.Hmat.{domainNode, matrixHead, sideHead}
+use Rattle.read.proofs.Fields.{fields-shown, handle-shown, matrix-shown, side-shown}
+use Rattle.read.proofs.node_in.Statement.{statement}
+use Rattle.read.proofs.node_in.Tie as tie
+
+returns : tie.Need-returns
+returns c = rw (c .before .enum-told .given .1) (refl, c .processor-in .ensures)
+
+returns-2 : tie.Need-returns-2
+unfolding formIn shown
+returns-2 c = rw (c .before .enum-told2 .given .1) (refl, fields-shown caches _ (cacheNode (c .get .result)) (c .get .ensures))
+
+returns-3 : tie.Need-returns-3
+unfolding formIn shown
+returns-3 c = rw (c .before .enum-told3 .given .1) (refl, fields-shown memories _ (memoryNode (c .get2 .result)) (c .get2 .ensures))
+
+returns-4 : tie.Need-returns-4
+returns-4 c =
+    let i = c .get3 .result in
+    rw (c .before .enum-told4 .given .1) (refl, handle-shown (i .handle) (i .«proximity_domain») (i .flags) ∙ fields-shown initiators _ (initiatorNode i) (c .get3 .ensures))
+
+returns-5 : tie.Need-returns-5
+unfolding formIn shown
+returns-5 c = rw (c .before .enum-told5 .given .1) (refl, fields-shown rintcs _ (rintcNode (c .get4 .result)) (c .get4 .ensures))
+
+returns-6 : tie.Need-returns-6
+unfolding formIn shown
+returns-6 c = rw (c .before .enum-told6 .given .1) (refl, fields-shown domains _ (domainNode (c .get5 .result)) (c .get5 .ensures))
+
+returns-7 : tie.Need-returns-7
+unfolding shown part
+returns-7 c = rw (c .before .enum-told7 .given .1) (refl, matrix-shown _ (matrixHead (c .get6 .result)) (c .get6 .ensures))
+
+returns-8 : tie.Need-returns-8
+unfolding shown
+returns-8 c = rw (c .before .enum-told8 .given .1) (refl, side-shown _ (sideHead (c .get7 .result)) (c .get7 .ensures))
+
+returns-9 : tie.Need-returns-9
+unfolding fieldsOf
+returns-9 c = rw (c .enum-told9 .given .1) (refl, refl)
+
+pub node-in-spec : {M : Type 1} → statement M
+node-in-spec =
+    tie.close
+    (tie.spec
+    (λ c. search needs)
+    (λ c κs. c .before .before .before .pre (rw (c .enum-told .given .1)))
+    (λ c. search needs)
+    (λ c κs. search needs)
+    (λ c. search needs)
+    (λ c κs. search needs)
+    (λ c. search needs)
+    (λ c κs. search needs)
+    (λ c. search needs)
+    (λ c κs. search needs)
+    (λ c. search needs)
+    (λ c κs. search needs)
+    (λ c. search needs)
+    (λ c κs. search needs)
+    (λ c. search needs)
+    (λ c κs. search needs)
+    (λ c. search needs)
+    returns
+    returns-2
+    returns-3
+    returns-4
+    returns-5
+    returns-6
+    returns-7
+    returns-8
+    returns-9)

@@ -1,0 +1,54 @@
+-- `refs_good` meets its contract, row by row.
+use mathlib.Core.Path.{_≡_, sym, _∙_}
+use borrow.Author.Needs.{needs}
+use borrow.Author.Tests.{not-true, not-false}
+use Rattle.format.specs.Row.{memories, initiators, rintcs, domains, matrices, sides}
+use Rattle.read.proofs.Refs.{bare-refs, none-refs, cache-refs, processor-refs}
+use Rattle.read.proofs.refs_good.Statement.{statement}
+use Rattle.read.proofs.refs_good.Tie as tie
+
+returns : tie.Need-returns
+returns c =
+    let r = c .before in
+    rw (r .before .before .enum-told .given .1, processor-refs, ← r .before .get-u32 .ensures, ← r .refers-or-none .ensures, not-true (r .refers-or-none .result) (c .if1 .taken))
+
+returns-2 : tie.Need-returns-2
+returns-2 c =
+    let r = c .before .before .before in
+    rw (r .before .before .enum-told .given .1, processor-refs, ← r .before .get-u32 .ensures, ← r .refers-or-none .ensures, not-false (r .refers-or-none .result) (c .before .before .if1 .left))
+    (c .links .ensures ∙ rw (c .before .rest .ensures))
+
+returns-3 : tie.Need-returns-3
+returns-3 c = rw (c .before .before .enum-told2 .given .1, ← cache-refs, ← c .before .get-u322 .ensures) (c .refers-or-none2 .ensures)
+
+pub refs-good-spec : {M : Type 1} → statement M
+refs-good-spec =
+    tie.close
+    (tie.spec
+    (λ c. search needs)
+    (λ c κs. search needs)
+    (λ c. search needs)
+    (λ c κs. search needs)
+    returns
+    (λ c κs. search needs)
+    (λ c κs. search needs)
+    (λ c. search needs)
+    (λ c κs. search needs)
+    (λ c. search needs)
+    (λ c κs. search needs)
+    (λ c. search needs)
+    (λ c. search needs)
+    (λ c. search needs)
+    (λ c. search needs)
+    (λ c. search needs)
+    (λ c. search needs)
+    (λ c. search needs)
+    returns-2
+    returns-3
+    (λ c. rw (c .enum-told3 .given .1) (bare-refs _ memories _ tt))
+    (λ c. rw (c .enum-told4 .given .1) (bare-refs _ initiators _ tt))
+    (λ c. rw (c .enum-told5 .given .1) (bare-refs _ rintcs _ tt))
+    (λ c. rw (c .enum-told6 .given .1) (bare-refs _ domains _ tt))
+    (λ c. rw (c .enum-told7 .given .1) (bare-refs _ matrices _ tt))
+    (λ c. rw (c .enum-told8 .given .1) (bare-refs _ sides _ tt))
+    (λ c. rw (c .enum-told9 .given .1) (none-refs _ _)))

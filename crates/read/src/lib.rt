@@ -1,0 +1,312 @@
+// The reader: whether a table is accepted, what its records are, and their parts of the lent bytes.
+ghost use mathlib.Core.Path.{_≡_};
+ghost use mathlib.Core.List.{[]};
+ghost use mathlib.Core.Option.{some};
+ghost use Prim.Native.Nat.{ℕ, _/_, _≤_};
+ghost use lib.ListN.{length};
+ghost use Rattle.format.specs.Layout.{isGood, orNone};
+ghost use Rattle.format.specs.Row.{processors};
+ghost use Rattle.format.specs.Read.{seenAs, walk, fieldsOf, readingOf};
+ghost use Rattle.format.specs.Read as format;
+ghost use Rattle.header.specs.Header.{meant};
+ghost use Rattle.pptt.specs.Processor.{processorShown};
+ghost use Rattle.rows.specs.Rows.{rowMeant};
+ghost use Rattle.frames.specs.Frames.{framesOf, refers};
+ghost use Rattle.read.specs.Places.{linked, refsIn, judgedAt, counted, bodyAt, seenAt, partAt, firstPlace, behind};
+ghost use Rattle.read.specs.Answers.{rowIn, fieldsIn, shownAs, stepAs, acceptedAs, shown};
+use frames::Judged;
+use frames::Refusal;
+use frames::Spelled;
+use header::Table;
+use hmat::MemoryProximityDomain;
+use hmat::MemorySideCache;
+use hmat::SystemLocality;
+use pptt::CacheNode;
+use pptt::ProcessorNode;
+use rows::Row;
+use srat::GenericInitiator;
+use srat::MemoryAffinity;
+use srat::RintcAffinity;
+
+// ---- the judgement: c is a table's own bytes
+
+// Whether v is 0, or the start of a record of type kind before the one at own.
+fn refers_or_none(t: Table, c: &[u8], own: usize, v: u32, kind: u16) -> bool
+    ensures { λ r. ⌜ r ≡ isGood (refers (meant t) (now (c .entry)) own) (orNone kind) v ⌝ }
+{
+    if v == 0 {
+        return true;
+    }
+    frames::refers(t, c, own, v as usize, kind)
+}
+
+// Whether each of the offsets is the start of a cache's record before the one at own.
+fn links(t: Table, c: &[u8], own: usize, offsets: &[u8]) -> bool
+    ensures { λ r. ⌜ r ≡ linked (refers (meant t) (now (c .entry)) own) (length (now (offsets .entry)) / 4) (now (offsets .entry)) ⌝ }
+{
+    let n = offsets.len() / 4;
+    let mut i = 0;
+    while i < n {
+        if !frames::refers(
+            t,
+            c,
+            own,
+            field::get_u32(offsets, 4 * i) as usize,
+            CacheNode::TYPE as u16,
+        ) {
+            return false;
+        }
+        i += 1;
+    }
+    true
+}
+
+// Whether the references of a record are good: a processor's parent and resources, a cache's next level.
+fn refs_good(t: Table, c: &[u8], own: usize, row: Row, body: &[u8]) -> bool
+    ensures { λ r. ⌜ r ≡ refsIn (refers (meant t) (now (c .entry)) own) (rowMeant row) (now (body .entry)) ⌝ }
+{
+    match row {
+        Row::Processors => {
+            if !refers_or_none(
+                t,
+                c,
+                own,
+                field::get_u32(body, 8),
+                ProcessorNode::TYPE as u16,
+            ) {
+                return false;
+            }
+            links(t, c, own, field::rest(body, ProcessorNode::LEN))
+        }
+        Row::Caches => refers_or_none(t, c, own, field::get_u32(body, 8), CacheNode::TYPE as u16),
+        Row::Memories => true,
+        Row::Initiators => true,
+        Row::Rintcs => true,
+        Row::Domains => true,
+        Row::Matrices => true,
+        Row::Sides => true,
+        Row::Unknown => true,
+    }
+}
+
+// A record is passed, or refused.
+enum Step {
+    Next(usize),
+    Refused(Refusal),
+}
+
+// The judgement of the record at a place.
+fn judge(t: Table, c: &[u8], revision: u8, mask: u32, p: usize) -> Step
+    ensures { λ r. ⌜ stepAs r ≡ judgedAt (meant t) (now (c .entry)) revision mask p ⌝ }
+{
+    let s = field::rest(c, p);
+    if !frames::framed(t, s) {
+        return Step::Refused(Refusal::BadFrame(p));
+    }
+    let body = frames::record_in(t, s);
+    let row = rows::known(rows::row_of(t, revision, body), mask);
+    if !rows::sound(row, body) {
+        return Step::Refused(Refusal::BadRecord(p));
+    }
+    if !refs_good(t, c, p, row, body) {
+        return Step::Refused(Refusal::BadRef(p));
+    }
+    Step::Next(p + body.len())
+}
+
+// Whether a table is accepted: how many records it has, or what is refused first.
+pub enum Accepted {
+    Records(usize),
+    Refused(Refusal),
+}
+
+// All records, one after the other.
+fn scan(t: Table, c: &[u8], revision: u8, mask: u32) -> Accepted
+    ensures { λ r. ⌜ acceptedAs r ≡ counted (walk (meant t) revision mask [] (framesOf (meant t) (now (c .entry)))) ⌝ }
+{
+    let mut p = t.front();
+    let mut count = 0;
+    while p < c.len() {
+        match judge(t, c, revision, mask, p) {
+            Step::Next(q) => {
+                p = q;
+                count += 1;
+            }
+            Step::Refused(r) => return Accepted::Refused(r),
+        }
+    }
+    Accepted::Records(count)
+}
+
+// Judges a table by the rows that the mask has.
+pub fn accept(table: &[u8], mask: u32) -> Accepted
+    ensures { λ r. ⌜ acceptedAs r ≡ counted (format.accept (now (table .entry)) mask) ⌝ }
+{
+    match frames::judge_head(table) {
+        Judged::Table(t) => scan(t, frames::own(table), field::get_u8(table, 8), mask),
+        Judged::Refused(r) => Accepted::Refused(r),
+    }
+}
+
+// ---- one record after the other: of an accepted table these are its records, of other bytes what a table would have there
+
+// What a record says, as the node of its row.
+pub enum Node {
+    Processor(ProcessorNode),
+    Cache(CacheNode),
+    Memory(MemoryAffinity),
+    Initiator(GenericInitiator),
+    Rintc(RintcAffinity),
+    Domain(MemoryProximityDomain),
+    Matrix(SystemLocality),
+    Side(MemorySideCache),
+    Unknown,
+}
+
+// A record: its type, place and length, and its row and fields as a node.
+pub struct Shown {
+    pub kind: u16,
+    pub place: usize,
+    pub length: usize,
+    pub node: Node,
+}
+
+// Where the first record starts.
+pub fn first_place(table: &[u8]) -> usize
+    ensures { λ r. ⌜ r ≡ firstPlace (now (table .entry)) ⌝ }
+{
+    match frames::signed(table) {
+        Spelled::Table(t) => t.front(),
+        Spelled::Other => 0,
+    }
+}
+
+// The bytes of the record at a place. The next record starts behind them.
+pub fn body_at(table: &[u8], place: usize) -> &[u8]
+    ensures { λ r. ⌜ now r ≡ bodyAt (now (table .entry)) place ⌝ }
+{
+    match frames::signed(table) {
+        Spelled::Table(t) => frames::record_in(t, field::rest(frames::own(table), place)),
+        Spelled::Other => &table[..0],
+    }
+}
+
+// The place of record number n.
+fn place_of(table: &[u8], n: usize) -> usize
+    ensures { λ r. ⌜ r ≡ behind (now (table .entry)) n (firstPlace (now (table .entry))) ⌝ }
+{
+    let mut p = first_place(table);
+    let mut left = n;
+    while 0 < left {
+        p += body_at(table, p).len();
+        left -= 1;
+    }
+    p
+}
+
+// A processor has as many resources as its record has room for: what it says of their number is tested elsewhere.
+fn processor_in(body: &[u8]) -> ProcessorNode
+    requires { ⌜ length (now body) ≤ 252 ⌝ }
+    ensures { λ r. ⌜ processorShown r ≡ fieldsOf (some processors) (now (body .entry)) ⌝ }
+{
+    let mut n = ProcessorNode::get(body, 0);
+    n.resources = (field::rest(body, ProcessorNode::LEN).len() / 4) as u32;
+    n
+}
+
+fn node_in(row: Row, body: &[u8]) -> Node
+    requires { ⌜ (rowMeant row ≡ some processors → length (now body) ≤ 252) ⌝ }
+    ensures { λ r. ⌜ (rowIn r ≡ rowMeant row) × (fieldsIn r ≡ fieldsOf (rowMeant row) (now (body .entry))) ⌝ }
+{
+    match row {
+        Row::Processors => Node::Processor(processor_in(body)),
+        Row::Caches => Node::Cache(CacheNode::get(body, 0)),
+        Row::Memories => Node::Memory(MemoryAffinity::get(body, 0)),
+        Row::Initiators => Node::Initiator(GenericInitiator::get(body, 0)),
+        Row::Rintcs => Node::Rintc(RintcAffinity::get(body, 0)),
+        Row::Domains => Node::Domain(MemoryProximityDomain::get(body, 0)),
+        Row::Matrices => Node::Matrix(SystemLocality::get(body, 0)),
+        Row::Sides => Node::Side(MemorySideCache::get(body, 0)),
+        Row::Unknown => Node::Unknown,
+    }
+}
+
+fn show(t: Table, revision: u8, mask: u32, place: usize, body: &[u8]) -> Shown
+    ensures { λ r. ⌜ ((count : ℕ) → shownAs count r ≡ readingOf count (seenAs (meant t) revision mask place (now (body .entry)))) ⌝ }
+{
+    let row = rows::known(rows::row_of(t, revision, body), mask);
+    Shown {
+        kind: frames::type_in(t, body),
+        place,
+        length: body.len(),
+        node: node_in(row, body),
+    }
+}
+
+// The record at a place, by the rows that the mask has.
+pub fn record_at(table: &[u8], mask: u32, place: usize) -> Shown
+    ensures { λ r. ⌜ ((count : ℕ) → shownAs count r ≡ readingOf count (seenAt (now (table .entry)) mask place)) ⌝ }
+{
+    let body = body_at(table, place);
+    match frames::signed(table) {
+        Spelled::Table(t) => show(t, field::get_u8(table, 8), mask, place, body),
+        Spelled::Other => Shown {
+            kind: 0,
+            place,
+            length: body.len(),
+            node: Node::Unknown,
+        },
+    }
+}
+
+// The list inside the record at a place, or the whole of it where it is unknown.
+pub fn part_at(table: &[u8], mask: u32, place: usize) -> &[u8]
+    ensures { λ r. ⌜ now r ≡ partAt (now (table .entry)) mask place ⌝ }
+{
+    let body = body_at(table, place);
+    match frames::signed(table) {
+        Spelled::Table(t) => rows::part(
+            rows::known(rows::row_of(t, field::get_u8(table, 8), body), mask),
+            body,
+        ),
+        Spelled::Other => body,
+    }
+}
+
+// ---- the reading call
+
+pub enum Reply {
+    Record { count: usize, record: Shown },
+    Refused(Refusal),
+}
+
+// Record number n of a table, by the rows that the mask has.
+pub fn read(table: &[u8], mask: u32, n: usize) -> Reply
+    ensures { λ r. ⌜ shown r ≡ format.read (now (table .entry)) mask n ⌝ }
+{
+    match accept(table, mask) {
+        Accepted::Records(count) => {
+            if count <= n {
+                return Reply::Refused(Refusal::NoRecord(count));
+            }
+            let record = record_at(table, mask, place_of(table, n));
+            Reply::Record { count, record }
+        }
+        Accepted::Refused(r) => Reply::Refused(r),
+    }
+}
+
+// The part of the table that comes back with record number n.
+pub fn part<'a>(table: &'a [u8], mask: u32, n: usize) -> &'a [u8]
+    ensures { λ r. ⌜ now r ≡ format.readPart (now (table .entry)) mask n ⌝ }
+{
+    match accept(table, mask) {
+        Accepted::Records(count) => {
+            if count <= n {
+                return &table[..0];
+            }
+            part_at(table, mask, place_of(table, n))
+        }
+        Accepted::Refused(_) => &table[..0],
+    }
+}

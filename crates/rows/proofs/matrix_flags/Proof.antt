@@ -1,0 +1,10 @@
+-- `matrix_flags` meets its contract, test by test.
+use borrow.Author.Tests.{eq-eqb, ne-eqb}
+use Rattle.format.specs.Form.{matrixFlags}
+use Rattle.rows.proofs.matrix_flags.Statement.{statement}
+use Rattle.rows.proofs.matrix_flags.Tie as tie
+
+pub matrix-flags-spec : {M : Type 1} → statement M
+unfolding matrixFlags
+matrix-flags-spec =
+    tie.close (tie.spec (λ c. rw (ne-eqb _ _ (c .if1 .taken))) (λ c. rw (eq-eqb _ _ (c .if1 .left))))

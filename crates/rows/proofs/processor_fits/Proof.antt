@@ -1,0 +1,15 @@
+-- `processor_fits` meets its contract, test by test.
+use borrow.Author.Tests.{le-leb, lt-leb}
+use Rattle.format.specs.Row.{column}
+use Rattle.rows.proofs.Laws.{both-false}
+use Rattle.rows.proofs.processor_fits.Statement.{statement}
+use Rattle.rows.proofs.processor_fits.Tie as tie
+
+pub processor-fits-spec : {M : Type 1} → statement M
+unfolding column
+processor-fits-spec =
+    tie.close
+    (tie.spec
+    (λ c. rw (lt-leb _ _ (c .if1 .taken)))
+    (λ c. simp (lt-leb _ _ (c .if2 .taken), both-false))
+    (λ c. rw (le-leb _ _ (c .before .if1 .left), le-leb _ _ (c .if2 .left))))
