@@ -1,5 +1,5 @@
 -- Frames and references by places, for every framing: a walk from the front names a record exactly where it stands among the records before.
-use mathlib.Core.Path.{_≡_, refl, sym, ap, _∙_}
+use mathlib.Core.Path.{_≡_, refl, sym, _∙_}
 use Prim.Native.Nat.{ℕ, zero, suc, _+_, _-_, _≤_, _<_}
 use mathlib.Core.List.{List, [], _∷_}
 use mathlib.Core.Bool.{Bool, true, false}
@@ -9,7 +9,7 @@ use lib.ListN.{length, take, drop, length-drop, drop-of-length-le}
 use lib.Seq.{drop-drop, length-take-le, take-take}
 use lib.Dec.{eqb, leb, ltb}
 use borrow.Author.Tests.{eq-eqb, ne-eqb, leb-true, lt-ltb, le-ltb, ltb-true, ltb-false}
-use Rattle.format.specs.Bytes.{pick, both}
+use Rattle.format.specs.Bytes.{pick}
 use Rattle.format.specs.Table.{Table, pptt, srat, hmat, front, frame, least}
 use Rattle.format.specs.Node.{Entry, entry, atPlace}
 use Rattle.format.specs.Read.{typeIn, sizeIn, framed, Frames, ended, badFrame, framedAt, frames}

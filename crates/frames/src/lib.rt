@@ -1,8 +1,7 @@
 // The header of a table, the frames of its records, and the references between them.
 // Any bytes are allowed: what is read past their end counts as 0.
 ghost use mathlib.Core.Path.{_≡_};
-ghost use Prim.Native.Nat.{_≤_};
-ghost use lib.ListN.{take, drop, length};
+ghost use lib.ListN.{take, drop};
 ghost use Rattle.format.specs.Bytes.{given, same, unless};
 ghost use Rattle.format.specs.Layout.{fixedOk};
 ghost use Rattle.format.specs.Table.{tail, least};

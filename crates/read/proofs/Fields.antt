@@ -1,10 +1,10 @@
 -- A record's fields as a reading call shows them are those of its node, of which a list inside it is left out.
-use mathlib.Core.Path.{_≡_, refl, sym, ap, _∙_}
+use mathlib.Core.Path.{_≡_, refl, ap, _∙_}
 use Prim.Native.Nat.{ℕ, _-_, _/_, _≤_}
 use mathlib.Core.List.{List, [], _∷_, _++_}
 use mathlib.Core.Option.{some}
 use native.Mathlib.Omega.{arith}
-use lib.ListN.{length, take}
+use lib.ListN.{length}
 use lib.Seq.{take-take}
 use lib.Dec.{eqb, leb}
 use borrow.Author.Tests.{leb-true}
@@ -12,7 +12,7 @@ use Rattle.format.specs.Layout.{asIs, fieldsWith}
 use Rattle.format.specs.Form.{layout}
 use Rattle.format.specs.Table.{Table}
 use Rattle.format.specs.Row.{Row, processors, matrices, sides, column, matches, rowOf, known, formIn}
-use Rattle.format.specs.Node.{Node, node, nodeAt}
+use Rattle.format.specs.Node.{Node, nodeAt}
 use Rattle.format.specs.Read.{shown, fieldsOf}
 use Rattle.laws.proofs.Bytes.{part-take}
 use Rattle.laws.proofs.Lays.{both-true}

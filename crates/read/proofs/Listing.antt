@@ -15,9 +15,10 @@ use Rattle.format.specs.Read.{signed, own, headFault, judgeHead, framed, Seen, 
 use Rattle.laws.proofs.Bytes.{value-byte}
 use Rattle.laws.proofs.Finds.{then-given, or-given, unless-given}
 use Rattle.laws.proofs.Masks.{walk-first}
-use Rattle.frames.specs.Frames.{framesOf}
 use Rattle.frames.proofs.Places.{lt-or-le, ahead, recordAt, next, ahead-end, ahead-bad, ahead-next}
-use Rattle.read.specs.Places.{counted, bodyIn, bodyAt, seenAt, frontOf, firstPlace, behind, seenFrom}
+use Rattle.read.specs.declared.Shown.{Shown}
+use Rattle.read.specs.Answers.{shownAs}
+use Rattle.read.specs.Places.{counted, bodyIn, bodyAt, seenIn, seenAt, frontOf, firstPlace, behind, seenFrom}
 
 -- ---- places
 
@@ -56,6 +57,20 @@ seen-signed b mask p t rev bs q r e = rw (← e, ← q, value-byte, ← r)
 pub seen-unsigned : (b : List ℕ) (mask p : ℕ) (bs : List ℕ) → none ≡ signed b → bs ≡ bodyAt b p → record { place = p; type = 0; row = none; body = bs } ≡ seenAt b mask p
 unfolding seenAt
 seen-unsigned b mask p bs q e = rw (← e, ← q)
+
+seen-body : (b : List ℕ) (mask p : ℕ) → seenAt b mask p .body ≡ bodyAt b p
+unfolding seenAt
+seen-body b mask p = by (signed b)
+  where
+    by : (o : Option Table) → seenIn o (at b 8) mask p (bodyIn o b p) .body ≡ bodyIn o b p
+    by none = refl
+    by (some t) = refl
+
+-- the record behind the one that is shown starts as far on as that one is long
+pub shown-next : (b : List ℕ) (mask p : ℕ) (s : Shown) → shownAs 0 s ≡ readingOf 0 (seenAt b mask p) → p + s .length ≡ p + length (bodyAt b p)
+shown-next b mask p s e =
+    let l : s .length ≡ length (seenAt b mask p .body) = cc in
+    rw (l, seen-body)
 
 -- ---- going from place to place
 

@@ -1,5 +1,5 @@
 -- The references of a record, row by row: a processor's parent and its list, a cache's next level, and none where the layout has none.
-use mathlib.Core.Path.{_≡_, refl, sym, _∙_}
+use mathlib.Core.Path.{_≡_, refl, sym}
 use Prim.Native.Nat.{ℕ, suc, _+_, _-_, _*_, _/_, _≤_, _<_}
 use mathlib.Core.List.{List, [], _∷_}
 use mathlib.Core.Bool.{Bool, true, false, not}
@@ -10,7 +10,7 @@ use lib.Seq.{drop-drop}
 use lib.Dec.{eqb}
 use Rattle.format.specs.Bytes.{pick, both, firstOf, at, value, part}
 use Rattle.format.specs.Layout.{to, orNone, asIs, fieldsWith, fields, isGood, refsGood}
-use Rattle.format.specs.Form.{Form, processor, cache, acpi, pci, layout}
+use Rattle.format.specs.Form.{processor, cache, acpi, pci, layout}
 use Rattle.format.specs.Row.{Row, processors, caches, memories, initiators, rintcs, domains, matrices, sides, formIn}
 use Rattle.format.specs.Read.{sound, recordFault}
 use Rattle.laws.proofs.Offsets.{fields-at}

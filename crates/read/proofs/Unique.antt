@@ -1,7 +1,7 @@
 -- What an answer stands for determines the answer: it can be read back, so two answers that meet one contract are the same.
 use mathlib.Core.Path.{_≡_, refl, sym, ap, _∙_}
 use Prim.Native.Nat.{ℕ}
-use mathlib.Core.List.{List, [], _∷_}
+use mathlib.Core.List.{List}
 use mathlib.Core.Option.{Option, none, some}
 use lib.Dec.{eqb}
 use Rattle.format.specs.Bytes.{pick, Answer, refused, given, at}
@@ -9,9 +9,7 @@ use Rattle.format.specs.Row.{Row, processors, caches, memories, initiators, rin
 use Rattle.format.specs.Read.{Reading, reading}
 use Rattle.srat.specs.declared.Handle.{Handle}
 use Rattle.srat.specs.declared.Handle.the-variants.{Acpi, Pci}
-use Rattle.frames.specs.declared.Refusal.{Refusal}
-use Rattle.frames.specs.declared.Refusal.the-variants.{Short, BadSign, BadLength, BadSum, BadFront, BadFrame, BadRecord, BadRef, NoRecord}
-use Rattle.frames.specs.Refusals.{refusalNumber, refusalPlace}
+use Rattle.frames.proofs.Unique.{refusalOf, refusal-back}
 use Rattle.read.specs.declared.Node.{Node}
 use Rattle.read.specs.declared.Node.the-variants as node
 use Rattle.read.specs.declared.Shown.{Shown}
@@ -20,30 +18,6 @@ use Rattle.read.specs.declared.Accepted.the-variants as accepted
 use Rattle.read.specs.declared.Reply.{Reply}
 use Rattle.read.specs.declared.Reply.the-variants as reply
 use Rattle.read.specs.Answers.{rowIn, fieldsIn, shownAs, acceptedAs, shown}
-
--- ---- refusals
-
-abbrev refusalOf : ℕ → ℕ → Refusal
-refusalOf k p =
-    pick (eqb k 20) Short
-    (pick (eqb k 21) BadSign
-    (pick (eqb k 22) BadLength
-    (pick (eqb k 23) BadSum
-    (pick (eqb k 24) BadFront
-    (pick (eqb k 25) (BadFrame p)
-    (pick (eqb k 26) (BadRecord p)
-    (pick (eqb k 27) (BadRef p) (NoRecord p))))))))
-
-refusal-back : (r : Refusal) → refusalOf (refusalNumber r) (refusalPlace r) ≡ r
-refusal-back Short = refl
-refusal-back BadSign = refl
-refusal-back BadLength = refl
-refusal-back BadSum = refl
-refusal-back BadFront = refl
-refusal-back (BadFrame p) = refl
-refusal-back (BadRecord p) = refl
-refusal-back (BadRef p) = refl
-refusal-back (NoRecord n) = refl
 
 -- ---- records
 

@@ -1,6 +1,6 @@
 -- The laws that carry the loop over the records: a walk by places, each record judged by itself, gives the walk of the format.
-use mathlib.Core.Path.{_≡_, refl, sym, ap, _∙_}
-use Prim.Native.Nat.{ℕ, zero, suc, _+_, _≤_, _<_}
+use mathlib.Core.Path.{_≡_, refl, sym, _∙_}
+use Prim.Native.Nat.{ℕ, suc, _+_, _≤_, _<_}
 use mathlib.Core.List.{List, [], _∷_}
 use mathlib.Core.Bool.{Bool, true, false}
 use mathlib.Core.Option.{Option, none, some}
@@ -8,13 +8,13 @@ use native.Mathlib.Omega.{arith}
 use native.Mathlib.Nat.{zero-add, add-zero}
 use lib.ListN.{length, drop}
 use lib.Dec.{eqb}
-use Rattle.format.specs.Bytes.{pick, both, Answer, refused, given, andThen, unless}
+use Rattle.format.specs.Bytes.{pick, Answer, refused, given, andThen, unless}
 use Rattle.format.specs.Layout.{Item, fix, fld, two, to, orNone, arity, number, isGood, refsGood}
 use Rattle.format.specs.Table.{Table, front}
 use Rattle.format.specs.Form.{layout}
 use Rattle.format.specs.Row.{Row, formIn, known, rowOf}
 use Rattle.format.specs.Node.{Entry, entry, atPlace}
-use Rattle.format.specs.Read.{typeIn, sizeIn, framed, recordFault, Seen, seenAs, entryOf, push, walk}
+use Rattle.format.specs.Read.{typeIn, framed, recordFault, Seen, seenAs, push, walk}
 use Rattle.laws.proofs.Finds.{unless-given}
 use Rattle.frames.specs.Frames.{framesOf, refers, recordIn}
 use Rattle.frames.proofs.Places.{framed-then, ahead, recordAt, next, ahead-end, ahead-bad, ahead-next, room, Came, start, more, came-refers}

@@ -47,13 +47,8 @@ fn links(t: Table, c: &[u8], own: usize, offsets: &[u8]) -> bool
     let n = offsets.len() / 4;
     let mut i = 0;
     while i < n {
-        if !frames::refers(
-            t,
-            c,
-            own,
-            field::get_u32(offsets, 4 * i) as usize,
-            CacheNode::TYPE as u16,
-        ) {
+        let v = field::get_u32(offsets, 4 * i) as usize;
+        if !frames::refers(t, c, own, v, CacheNode::TYPE as u16) {
             return false;
         }
         i += 1;
@@ -67,18 +62,16 @@ fn refs_good(t: Table, c: &[u8], own: usize, row: Row, body: &[u8]) -> bool
 {
     match row {
         Row::Processors => {
-            if !refers_or_none(
-                t,
-                c,
-                own,
-                field::get_u32(body, 8),
-                ProcessorNode::TYPE as u16,
-            ) {
+            let parent = field::get_u32(body, 8);
+            if !refers_or_none(t, c, own, parent, ProcessorNode::TYPE as u16) {
                 return false;
             }
             links(t, c, own, field::rest(body, ProcessorNode::LEN))
         }
-        Row::Caches => refers_or_none(t, c, own, field::get_u32(body, 8), CacheNode::TYPE as u16),
+        Row::Caches => {
+            let next_level = field::get_u32(body, 8);
+            refers_or_none(t, c, own, next_level, CacheNode::TYPE as u16)
+        }
         Row::Memories => true,
         Row::Initiators => true,
         Row::Rintcs => true,
@@ -234,12 +227,12 @@ fn node_in(row: Row, body: &[u8]) -> Node
 fn show(t: Table, revision: u8, mask: u32, place: usize, body: &[u8]) -> Shown
     ensures { λ r. ⌜ ((count : ℕ) → shownAs count r ≡ readingOf count (seenAs (meant t) revision mask place (now (body .entry)))) ⌝ }
 {
-    let row = rows::known(rows::row_of(t, revision, body), mask);
+    let row = rows::row_of(t, revision, body);
     Shown {
         kind: frames::type_in(t, body),
         place,
         length: body.len(),
-        node: node_in(row, body),
+        node: node_in(rows::known(row, mask), body),
     }
 }
 
@@ -265,10 +258,10 @@ pub fn part_at(table: &[u8], mask: u32, place: usize) -> &[u8]
 {
     let body = body_at(table, place);
     match frames::signed(table) {
-        Spelled::Table(t) => rows::part(
-            rows::known(rows::row_of(t, field::get_u8(table, 8), body), mask),
-            body,
-        ),
+        Spelled::Table(t) => {
+            let row = rows::row_of(t, field::get_u8(table, 8), body);
+            rows::part(rows::known(row, mask), body)
+        }
         Spelled::Other => body,
     }
 }

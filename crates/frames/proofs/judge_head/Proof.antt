@@ -1,9 +1,7 @@
 -- `judge_head` meets its contract: the length lent, the signature, and then the header of that table.
-use mathlib.Core.Path.{_≡_, sym, ap, _∙_}
 use borrow.Author.Needs.{needs}
 use borrow.Author.Tests.{lt-ltb, le-ltb}
 use Rattle.format.specs.Read.{judgeHead}
-use Rattle.frames.specs.Refusals.{spelledAs}
 use Rattle.frames.proofs.judge_head.Statement.{statement}
 use Rattle.frames.proofs.judge_head.Tie as tie
 

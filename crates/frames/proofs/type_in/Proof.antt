@@ -1,6 +1,5 @@
 -- `type_in` meets its contract: the type stands at the front, at the width of each table's frame.
 use borrow.Author.Needs.{needs}
-use mathlib.Core.Path.{_∙_}
 use Rattle.format.specs.Bytes.{part}
 use Rattle.frames.proofs.type_in.Statement.{statement}
 use Rattle.frames.proofs.type_in.Tie as tie

@@ -1,5 +1,4 @@
 -- `accept` meets its contract: the header, and then the records of the table's own bytes.
-use mathlib.Core.Path.{_∙_}
 use borrow.Author.Needs.{needs}
 use Rattle.format.specs.Read.{walked, accept}
 use Rattle.laws.proofs.Bytes.{value-byte}

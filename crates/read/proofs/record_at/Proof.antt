@@ -1,5 +1,5 @@
 -- `record_at` meets its contract: what is shown of the bytes at the place, of the table that is signed.
-use mathlib.Core.Path.{sym, ap, _∙_}
+use mathlib.Core.Path.{ap, _∙_}
 use borrow.Author.Needs.{needs}
 use Rattle.format.specs.Read.{fieldsOf, readingOf}
 use Rattle.read.proofs.Listing.{seen-signed, seen-unsigned}

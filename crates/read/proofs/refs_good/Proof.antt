@@ -1,5 +1,5 @@
 -- `refs_good` meets its contract, row by row.
-use mathlib.Core.Path.{_≡_, sym, _∙_}
+use mathlib.Core.Path.{_∙_}
 use borrow.Author.Needs.{needs}
 use borrow.Author.Tests.{not-true, not-false}
 use Rattle.format.specs.Row.{memories, initiators, rintcs, domains, matrices, sides}

@@ -1,6 +1,5 @@
 -- `scan` meets its contract. The invariant: past so many records, what the whole walk gives is still to come from here on.
-use mathlib.Core.Path.{_≡_, sym, _∙_}
-use Prim.Native.Nat.{_-_, _≤_, max}
+use Prim.Native.Nat.{_-_, _≤_}
 use native.Mathlib.Omega.{arith}
 use borrow.Author.Needs.{needs}
 use lib.ListN.{length}

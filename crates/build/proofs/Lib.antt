@@ -1,0 +1,9 @@
+pub mod Numbers
+pub mod Walks
+pub mod Agrees
+pub mod Sums
+pub mod Headers
+pub mod Turns
+pub mod Whole
+pub mod Steps
+pub mod Answers

@@ -1,0 +1,248 @@
+-- A turn of the pass keeps what the buffer and the numbers hold: the start, one record, and the end.
+use mathlib.Core.Path.{_≡_, sym, ap, _∙_}
+use Prim.Native.Nat.{ℕ, suc, _+_, _%_, _≤_, _<_}
+use mathlib.Core.List.{List, [], _∷_, _++_, append-assoc, append-nil}
+use mathlib.Core.Option.{none, some}
+use native.Mathlib.Numerals.{add-one}
+use native.Mathlib.Omega.{arith}
+use native.Mathlib.Nat.{zero-add}
+use lib.ListN.{length, drop, getD, length-append, length-drop, drop-of-length-le}
+use Rattle.format.specs.Bytes.{Bytes, le, part, over, sum, given}
+use Rattle.format.specs.Layout.{width, fields}
+use Rattle.format.specs.Table.{Table, front, limit}
+use Rattle.format.specs.Node.{Node, sizes}
+use Rattle.format.specs.Kind.{Kind, kindOf, body}
+use Rattle.format.specs.Recipe.{Meaning, means, cut, added, meaning}
+use Rattle.format.specs.Build.{records, header, checkOf, summed, tableFrom, table}
+use Rattle.laws.proofs.Bytes.{bytes-drop, length-part, sum-append}
+use Rattle.laws.proofs.Lays.{Fit}
+use Rattle.laws.proofs.Heads.{length-records, length-header}
+use Rattle.laws.proofs.Good.{Good}
+use Rattle.laws.proofs.Grows.{passed, kindHome, grows}
+use Rattle.build.specs.declared.State.{State}
+use Rattle.build.specs.declared.Change.{Change}
+use Rattle.build.specs.Write.{changeOf, wrote}
+use Rattle.build.specs.Held.{headIn, frontOf, Held, Ready, Small, Builds}
+use Rattle.build.proofs.Numbers.{front-small, front-long}
+use Rattle.build.proofs.Headers.{header-any, finished}
+use Rattle.build.proofs.Sums.{part-laid, sum-front, sum-moves}
+use Rattle.build.proofs.Turns.{Laid, Turned, turned}
+use Rattle.build.proofs.Whole.{Turn, turn, turn-as, run-keeps, run-end, body-fits, kind-home, from-head}
+
+pub length-front : (t : Table) (r : List ℕ) (n : ℕ) → 28 ≤ length r → length (frontOf t r n) ≡ front t
+length-front t r n h = length-header (headIn t r) 0 n 0 (length-part r 2 26 (omega arith))
+
+ten : (t : Table) (r : List ℕ) (n : ℕ) (rs : List ℕ) → 28 ≤ length r → 10 ≤ length (frontOf t r n ++ rs)
+ten t r n rs h = rw (length-append, length-front t r n h) (omega (arith, front-long t))
+
+older : (t : Table) (ns : List Node) → front t + sizes (drop 1 ns) ≤ front t + sizes ns
+unfolding sizes
+older t [] = omega arith
+older t (n ∷ ns) = omega arith
+
+-- ---- one record
+
+-- bytes change, and bytes come: of the buffers, and of the sums
+module _ {xs fs : List ℕ} {t : Table} {ns more : List Node} {c : Change} {out out′ : List ℕ} (h : Turned xs fs t ns more c out′) (held : out ≡ over xs 0 (fs ++ records t ns))
+    (room : length fs + sizes more ≤ length xs) where
+  lengths : (length fs + sizes ns ≡ length (h .head) + (length (h .old) + length (h .kept)))
+      × (length fs + sizes more ≡ length (h .head) + (length (h .new) + (length (h .kept) + length (h .tail))))
+  lengths = (simp (length-append, length-records) at (ap length (h .was)), simp (length-append, length-records) at (ap length (h .is)))
+
+  pub grown-by : sizes more ≡ sizes ns + c .more
+  grown-by = omega (arith, lengths .0, lengths .1, h .same, h .extra)
+
+  old-part : part out (c .from) (c .len) ≡ h .old
+  old-part = rw (held, h .was, h .from, h .len) (part-laid xs (h .head) (h .old) (h .kept) (rw (length-append, length-append) (omega (arith, lengths .0, lengths .1, h .same))))
+
+  new-part : part out′ (c .from) (c .len) ≡ h .new
+  new-part = rw (h .held, h .is, h .from, h .len, ← h .same) (part-laid xs (h .head) (h .new) (h .kept ++ h .tail) (rw (length-append, length-append, length-append) (omega (arith, lengths .1))))
+
+  tail-part : (q : ℕ) → q ≡ length fs + sizes ns → part out′ q (c .more) ≡ h .tail
+  tail-part q d =
+      let hs = h .head ++ (h .new ++ h .kept) in
+      let e : fs ++ records t more ≡ hs ++ (h .tail ++ []) = h .is ∙ simp (append-assoc, append-nil) in
+      let l : q ≡ length hs = d ∙ rw (length-append, length-append) (omega (arith, lengths .0, h .same)) in
+      rw (h .held, e, l, h .extra) (part-laid xs hs (h .tail) [] (rw (← e, length-append, length-records) room))
+
+  sums : sum (records t more) + sum (h .old) ≡ sum (records t ns) + sum (h .new) + sum (h .tail)
+  sums = omega (arith, simp sum-append at (ap sum (h .was)), simp sum-append at (ap sum (h .is)))
+
+  pub sum-turned : (q k l m v w u : ℕ) → q ≡ length fs + sizes ns → v ≡ (k + l + sum (records t ns)) % 256 → w ≡ (v + checkOf (sum (part out (c .from) (c .len)))) % 256
+      → u ≡ (w + sum (part out′ (c .from) (c .len)) + sum (part out′ q (c .more)) + checkOf l + m) % 256
+      → u ≡ (k + m + sum (records t more)) % 256
+  sum-turned q k l m v w u d ev ew eu =
+      sum-moves k l (sum (records t ns)) (sum (h .old)) (sum (h .new)) (sum (h .tail)) m (sum (records t more)) v w u ev (rw old-part at ew) (rw (new-part, tail-part q d) at eu) sums
+
+module _ (xs r : List ℕ) (t : Table) (m : Meaning) (s : State) (out : List ℕ) (h : Held xs r t m s out) where
+  abbrev fs : List ℕ
+  fs = frontOf t r (front t)
+
+  held-room : front t + sizes (h .nodes) ≤ length xs
+  held-room = let k = run-keeps (headIn t r) (h .since) (h .nodes) (cut t 0 (s .at) (drop (s .at) r)) m (h .leads) .1 in omega (arith, h .space)
+
+  laid : Laid xs fs t (h .nodes) s out
+  laid =
+      record {
+        long = length-front t r (front t) (h .whole);
+        ends = h .ends;
+        place = h .place;
+        counts = h .counts;
+        few = h .few;
+        good = h .good;
+        short = h .short;
+        room = held-room;
+        held = h .held;
+      }
+
+  module _ (k : Kind) (l : s .at < length r) (e : kindOf t (getD r (s .at) 0) ≡ some k) where
+    abbrev vs : List ℕ
+    vs = fields (body k) (drop (suc (s .at)) r)
+
+    found : Turn (headIn t r) r (h .nodes) (s .at) k m
+    found = turn-as (headIn t r) (h .since) r (h .nodes) (s .at) m k l e (h .leads)
+
+    pub whole : suc (s .at) + width (body k) ≤ length r
+    whole = found .whole
+
+    own : kindHome k ≡ t
+    own = kind-home t (getD r (s .at) 0) k e
+
+    fit : Fit (body k) vs
+    fit = body-fits k (drop (suc (s .at)) r) (bytes-drop (suc (s .at)) r (h .bytes)) (rw length-drop (omega (arith, whole)))
+
+    good : Good t (added k vs (h .nodes))
+    good =
+        let g : Good (kindHome k) (added k vs (h .nodes)) = grows k vs (h .nodes) fit (rw own (passed t (h .nodes) k vs (found .sound))) (rw own (h .good)) in
+        rw own at g
+
+    turns : Turned xs fs t (h .nodes) (added k vs (h .nodes)) (changeOf k s vs) (wrote k s vs out)
+    turns =
+        let g : Turned xs fs (kindHome k) (h .nodes) (added k vs (h .nodes)) (changeOf k s vs) (wrote k s vs out) = turned k vs (rw own laid) fit (rw own (passed t (h .nodes) k vs (found .sound))) (rw own good) in
+        rw own at g
+
+    more-room : length fs + sizes (added k vs (h .nodes)) ≤ length xs
+    more-room =
+        let a = run-keeps (headIn t r) (found .since) (added k vs (h .nodes)) (cut t 0 (suc (s .at) + width (body k)) (drop (suc (s .at) + width (body k)) r)) m (found .leads) .1 in
+        omega (arith, h .space, laid .long)
+
+    pub longer : s .end + changeOf k s vs .more ≡ front t + sizes (added k vs (h .nodes))
+    longer = omega (arith, grown-by turns (h .held) more-room, h .ends)
+
+    pub short : s .end + changeOf k s vs .more ≤ limit
+    short = omega (arith, longer, passed t (h .nodes) k vs (found .sound) .short)
+
+    pub goes : (s′ : State) (w : ℕ) → s′ .at ≡ suc (s .at) + width (body k) → s′ .end ≡ s .end + changeOf k s vs .more → s′ .latest ≡ changeOf k s vs .latest
+        → w ≡ (s .sum .value + checkOf (sum (part out (changeOf k s vs .from) (changeOf k s vs .len)))) % 256
+        → s′ .sum .value ≡ (w + sum (part (wrote k s vs out) (changeOf k s vs .from) (changeOf k s vs .len)) + sum (part (wrote k s vs out) (s .end) (changeOf k s vs .more)) + checkOf (sum (le 4 (s .end))) + sum (le 4 (s .end + changeOf k s vs .more))) % 256
+        → Held xs r t m s′ (wrote k s vs out)
+    goes s′ w ea ee el ew eu =
+        let d = laid .long in
+        let b : s .end ≡ length fs + sizes (h .nodes) = omega (arith, h .ends) in
+        record {
+          bytes = h .bytes;
+          whole = h .whole;
+          space = h .space;
+          nodes = added k vs (h .nodes);
+          good = good;
+          short = passed t (h .nodes) k vs (found .sound) .short;
+          since = found .since;
+          leads = rw ea (found .leads);
+          ends = ee ∙ longer;
+          place = rw el (turns .place);
+          counts = rw el (turns .counts);
+          few = rw el (turns .few);
+          held = turns .held;
+          sums = sum-turned turns (h .held) more-room (s .end) (sum (header (headIn t r) 0 0 0)) (sum (le 4 (s .end))) (sum (le 4 (s .end + changeOf k s vs .more))) (s .sum .value) w (s′ .sum .value) b
+              (h .sums ∙ ap (λ (n : ℕ). n % 256) (sum-front (headIn t r) (s .end) (records t (h .nodes)))) ew eu
+              ∙ ap (λ (n : ℕ). n % 256) (rw ee (sym (sum-front (headIn t r) (s .end + changeOf k s vs .more) (records t (added k vs (h .nodes))))));
+        }
+
+    -- the same of what the code says of the body, of the change and of the buffer
+    module _ (bs : List ℕ) (c : Change) (eb : bs ≡ drop (s .at + 1) r) (ec : c ≡ changeOf k s (fields (body k) bs)) where
+      change-is : c ≡ changeOf k s vs
+      change-is = ec ∙ ap (λ (l : List ℕ). changeOf k s (fields (body k) l)) (eb ∙ ap (λ (n : ℕ). drop n r) (add-one (s .at)))
+
+      pub in-limit : s .end + c .more ≤ limit
+      in-limit = rw change-is short
+
+      pub stepped : (out′ : List ℕ) (s′ : State) (w : ℕ) → out′ ≡ wrote k s (fields (body k) bs) out → s′ .at ≡ s .at + 1 + width (body k) → s′ .end ≡ s .end + c .more → s′ .latest ≡ c .latest
+          → w ≡ (s .sum .value + checkOf (sum (part out (c .from) (c .len)))) % 256
+          → s′ .sum .value ≡ (w + sum (part out′ (c .from) (c .len)) + sum (part out′ (s .end) (c .more)) + checkOf (sum (le 4 (s .end))) + sum (le 4 (s .end + c .more))) % 256
+          → Held xs r t m s′ out′
+      stepped out′ s′ w eo ea ee el ew eu =
+          let o : out′ ≡ wrote k s vs out = eo ∙ ap (λ (l : List ℕ). wrote k s (fields (body k) l) out) (eb ∙ ap (λ (n : ℕ). drop n r) (add-one (s .at))) in
+          let f = change-is in
+          rw o (goes s′ w (ea ∙ ap (λ (n : ℕ). n + width (body k)) (add-one (s .at))) (rw f at ee) (rw f at el) (rw f at ew) (rw (o, f) at eu))
+
+-- what a step may rely on
+module _ (r : List ℕ) (t : Table) (s : State) (out : List ℕ) (y : Ready r t s out) where
+  pub small : Small s
+  small =
+      let h = y .holds in
+      let l : front t + sizes (drop 1 (h .nodes)) ≤ front t + sizes (h .nodes) = older t (h .nodes) in
+      record { end = omega (arith, h .ends, h .short); place = omega (arith, h .place, h .short); few = h .few }
+
+-- ---- the start
+
+pub started : (xs r : List ℕ) (t : Table) (m : Meaning) (s : State) (out ps : List ℕ) (d f : ℕ) → Bytes r → Builds r t (length xs) → meaning r ≡ given m
+    → out ≡ over xs 0 (frontOf t r (front t)) → s .at ≡ 28 → s .end ≡ front t → s .latest .place ≡ front t → s .latest .count ≡ 0
+    → d ≡ 0 → f ≡ front t → ps ≡ part out 0 f → s .sum .value ≡ (d + sum ps) % 256
+    → Held xs r t m s out
+unfolding sizes records
+started xs r t m s out ps d f bytes b e held sat send splace scount ed ef ep es =
+    let (n, own, leads) = from-head r m e in
+    let same : b .meant ≡ m = cc (b .means) in
+    let for : m .head .table ≡ t = rw same at (b .for) in
+    let fs = frontOf t r (front t) in
+    let l = length-front t r (front t) n in
+    let room : front t + sizes (m .nodes) ≤ length xs = rw same at (b .room) in
+    let z : part out 0 (front t) ≡ fs = rw held (rw (append-nil, l) at (part-laid xs [] fs [] (rw append-nil (omega arith)))) in
+    record {
+      bytes = bytes;
+      whole = n;
+      space = room;
+      nodes = [];
+      good = tt;
+      short = omega (arith, front-small t);
+      since = 0;
+      leads = rw (sat, ← for) leads;
+      ends = send ∙ omega arith;
+      place = splace ∙ omega arith;
+      counts = tt;
+      few = omega arith;
+      held = rw append-nil held;
+      sums = rw (send, append-nil) (es ∙ rw (ed, ep, ef, z, zero-add));
+    }
+
+-- ---- the end
+
+check-mod : (x : ℕ) → checkOf (x % 256) ≡ checkOf x
+check-mod x = omega arith
+
+check-byte : (x : ℕ) → le 1 (checkOf x) ≡ checkOf x ∷ []
+unfolding le
+check-byte x = let e : checkOf x % 256 ≡ checkOf x = omega arith in rw e
+
+pub ended : (xs r : List ℕ) (t : Table) (m : Meaning) (s : State) (out one two : List ℕ) (v : ℕ) → Held xs r t m s out → length r ≤ s .at → meaning r ≡ given m
+    → one ≡ over out 4 (le 4 (s .end)) → v ≡ checkOf (s .sum .value) → two ≡ over one 9 (le 1 v)
+    → two ≡ over xs 0 (table r)
+unfolding table tableFrom summed cut
+ended xs r t m s out one two v h l e eo ev et =
+    let is = part r 2 26 in
+    let rs = records t (h .nodes) in
+    let same : means (headIn t r) (h .nodes) ≡ m = run-end (headIn t r) (h .since) (h .nodes) m (rw (drop-of-length-le r l) at (h .leads)) in
+    let lr : length rs ≡ sizes (h .nodes) = length-records t (h .nodes) in
+    let len : front t + length rs ≡ s .end = omega (arith, h .ends) in
+    let n = length (h .nodes) in
+    let z : over one 9 (le 1 v) ≡ over xs 0 (header (headIn t r) 0 (s .end) (checkOf (sum (header (headIn t r) 0 (s .end) 0 ++ rs))) ++ rs) =
+    rw (eo, h .held, ev, h .sums, check-mod (sum (header (headIn t r) 0 (s .end) 0 ++ rs)), check-byte (sum (header (headIn t r) 0 (s .end) 0 ++ rs)))
+    (finished t is rs xs (front t) (s .end) (checkOf (sum (header (headIn t r) 0 (s .end) 0 ++ rs))) (ten t r (front t) rs (h .whole)) (ten t r (s .end) rs (h .whole))) in
+    et ∙ z ∙ rw (e, ← same, len, header-any t is n 0 (s .end) 0, header-any t is n 0 (s .end) (checkOf (sum (header (headIn t r) 0 (s .end) 0 ++ rs))))
+
+-- a record of no kind has no meaning
+pub unknown : {A : Type 0} (r : List ℕ) (t : Table) (s : State) (out : List ℕ) → Ready r t s out → s .at < length r → kindOf t (getD r (s .at) 0) ≡ none → A
+unknown r t s out y l e =
+    let h = y .holds in
+    let (k, f, z) = turn (headIn t r) (h .since) r (h .nodes) (s .at) (y .meant) l (h .leads) in
+    absurd (let z : _≡_ {A = ℕ} 0 1 = cc in omega arith)

@@ -1,0 +1,420 @@
+-- One record, kind by kind: what the code writes is the table of the nodes with it, and what changes there is what the code says.
+use mathlib.Core.Path.{_≡_, refl, sym, ap, _∙_}
+use Prim.Native.Nat.{ℕ, zero, suc, _+_, _*_, _≤_, _<_}
+use mathlib.Core.List.{List, [], _∷_, _++_, append-assoc, append-nil}
+use mathlib.Core.Bool.{Bool, true, false}
+use native.Mathlib.Omega.{arith}
+use native.Mathlib.Nat.{zero-add, suc-mul, mul-le-mul}
+use native.Mathlib.Numerals.{add-one}
+use lib.ListN.{length, take, drop, set, replicate, length-append, length-drop, take-append-drop}
+use lib.Seq.{drop-drop, length-take-le}
+use lib.Dec.{ltb}
+use borrow.Author.Tests.{leb-false, ltb-true}
+use Rattle.format.specs.Bytes.{all, at, le, part, over}
+use Rattle.format.specs.Layout.{Item, fld, to, wide, arity, arities, numberWith, layWith, refsGood}
+use Rattle.format.specs.Table.{Table, pptt, srat, hmat, front, limit}
+use Rattle.format.specs.Form.{Form, processor, cache, memory, acpi, pci, rintc, domain, matrix, side, size, layout}
+use Rattle.format.specs.Node.{Node, node, bytes, sizes, starts, atOrdinal, placeOf}
+use Rattle.format.specs.Kind.{Kind, Processor, Resource, Cache, Memory, Acpi, Pci, Rintc, Domain, Matrix, Initiator, Target, Cell, Side, Handle, body}
+use Rattle.format.specs.Recipe.{Newest, aProcessor, aMatrix, aSide, other, newestAs, newest, resource, handle, setting, step, added}
+use Rattle.format.specs.Build.{records}
+use Rattle.laws.specs.Settings.{Setting, initiator, target, cell, spot, setTo}
+use Rattle.laws.proofs.Bytes.{length-le, length-over, length-part, over-fits, over-all, over-next}
+use Rattle.laws.proofs.Over.{over-right, over-left, over-within}
+use Rattle.laws.proofs.Lays.{Fit, fit-length, both-true}
+use Rattle.laws.proofs.Joins.{lay-append}
+use Rattle.laws.proofs.Nodes.{length-bytes}
+use Rattle.laws.proofs.Fits.{replicate-snoc}
+use Rattle.laws.proofs.Shapes.{Plain, plain-matrix}
+use Rattle.laws.proofs.Heads.{length-records}
+use Rattle.laws.proofs.Good.{Good}
+use Rattle.laws.proofs.Grows.{Passed, kindHome}
+use Rattle.pptt.specs.Processor as processors
+use Rattle.hmat.specs.Hmat as sides
+use Rattle.hmat.specs.Settings as matrices
+use Rattle.hmat.proofs.Matrices.{set-in-place}
+use Rattle.build.specs.declared.State.{State}
+use Rattle.build.specs.declared.Change.{Change}
+use Rattle.build.specs.Write.{placeIn, appended, unsetMatrix, making, growing, settingAt, sets, setting as setting-of, changeOf, wrote}
+use Rattle.build.specs.Held.{Counts}
+use Rattle.build.proofs.Agrees.{none-named, lay-plain, pptt-agrees, named-place}
+
+-- ---- before and after
+
+-- the buffer holds nodes behind a front, and the numbers are theirs
+pub record Laid (xs fs : List ℕ) (t : Table) (ns : List Node) (s : State) (out : List ℕ) : Type 0 where
+  pub long : length fs ≡ front t
+  pub ends : s .end ≡ front t + sizes ns
+  pub place : s .latest .place ≡ front t + sizes (drop 1 ns)
+  pub counts : Counts (newest ns) (s .latest)
+  pub few : s .latest .count ≤ 65535
+  pub good : Good t ns
+  pub short : front t + sizes ns ≤ limit
+  pub room : front t + sizes ns ≤ length xs
+  pub held : out ≡ over xs 0 (fs ++ records t ns)
+
+-- some bytes in the table change, and some come at its end
+pub record Turned (xs fs : List ℕ) (t : Table) (ns more : List Node) (c : Change) (out : List ℕ) : Type 0 where
+  pub head : List ℕ
+  pub old : List ℕ
+  pub new : List ℕ
+  pub kept : List ℕ
+  pub tail : List ℕ
+  pub was : fs ++ records t ns ≡ head ++ (old ++ kept)
+  pub is : fs ++ records t more ≡ head ++ (new ++ (kept ++ tail))
+  pub same : length new ≡ length old
+  pub from : c .from ≡ length head
+  pub len : c .len ≡ length old
+  pub extra : c .more ≡ length tail
+  pub place : c .latest .place ≡ front t + sizes (drop 1 more)
+  pub counts : Counts (newest more) (c .latest)
+  pub few : c .latest .count ≤ 65535
+  pub held : out ≡ over xs 0 (fs ++ records t more)
+
+-- ---- a record is made
+
+module _ {xs fs : List ℕ} {t : Table} {ns : List Node} {s : State} {out : List ℕ} (h : Laid xs fs t ns s out) where
+  length-held : length (fs ++ records t ns) ≡ s .end
+  length-held = rw (length-append, length-records) (omega (arith, h .long, h .ends))
+
+  made : (n : Node) (i j : ℕ) → Counts (newest (n ∷ ns)) (record { place = s .end; count = 0; initiators = i; targets = j }) → bytes (placeIn out) n ≡ bytes (placeOf (starts t ns)) n
+      → Turned xs fs t ns (n ∷ ns) (making s (size (n .form)) i j) (appended (s .end) n out)
+  unfolding records
+  made n i j c e =
+      let g = placeOf (starts t ns) in
+      let z = fs ++ records t ns in
+      let l = length-held in
+      record {
+        head = z;
+        old = [];
+        new = [];
+        kept = [];
+        tail = bytes g n;
+        was = sym (append-nil z);
+        is = sym (append-assoc fs (records t ns) (bytes g n));
+        same = refl;
+        from = sym l;
+        len = refl;
+        extra = sym (length-bytes g n);
+        place = h .ends;
+        counts = c;
+        few = omega arith;
+        held = over-next xs 0 z out (s .end) (bytes g n) (appended (s .end) n out) (h .held) (rw e) (omega arith) ∙ ap (λ (l : List ℕ). over xs 0 l) (append-assoc fs (records t ns) (bytes g n));
+      }
+
+-- ---- the newest record changes
+
+-- in its first node a becomes b: between what stands before and behind, old bytes become new ones, and some come at the end
+changed : (xs fs : List ℕ) (t : Table) (ns : List Node) (a b : Node) (c : Change) (out : List ℕ) (ps old new kept tail : List ℕ)
+    → length fs ≡ front t
+    → bytes (placeOf (starts t ns)) a ≡ ps ++ (old ++ kept) → bytes (placeOf (starts t ns)) b ≡ ps ++ (new ++ (kept ++ tail)) → length new ≡ length old
+    → c .from ≡ front t + sizes ns + length ps → c .len ≡ length old → c .more ≡ length tail
+    → c .latest .place ≡ front t + sizes ns → Counts (newest (b ∷ ns)) (c .latest) → c .latest .count ≤ 65535
+    → out ≡ over xs 0 ((fs ++ records t ns) ++ bytes (placeOf (starts t ns)) b)
+    → Turned xs fs t (a ∷ ns) (b ∷ ns) c out
+unfolding records
+changed xs fs t ns a b c out ps old new kept tail long ea eb same from len extra place counts few held =
+    let z = fs ++ records t ns in
+    record {
+      head = z ++ ps;
+      old = old;
+      new = new;
+      kept = kept;
+      tail = tail;
+      was = rw ea (simp append-assoc);
+      is = rw eb (simp append-assoc);
+      same = same;
+      from = rw (length-append, length-append, length-records) (omega arith);
+      len = len;
+      extra = extra;
+      place = place;
+      counts = counts;
+      few = few;
+      held = held ∙ ap (λ (l : List ℕ). over xs 0 l) (append-assoc fs (records t ns) (bytes (placeOf (starts t ns)) b));
+    }
+
+-- ---- a list grows
+
+arities-one : (n : ℕ) (i : Item) → arity i ≡ 1 → arities (replicate n i) ≡ n
+arities-one zero i e = refl
+arities-one (suc n) i e = rw (arities-one n i e, e) (omega arith)
+
+lay-one : (g : ℕ → ℕ) (i : Item) (v : ℕ) → layWith g (i ∷ []) (v ∷ []) ≡ le (wide i) (numberWith g i (v ∷ []))
+unfolding layWith
+lay-one g i v = append-nil (le (wide i) (numberWith g i (v ∷ [])))
+
+module _ (g : ℕ → ℕ) (i : Item) (one : arity i ≡ 1) (n : ℕ) (us : List ℕ) (l : length us ≡ 3 + n) where
+  first : length (take 3 us) ≡ 3
+  first = length-take-le 3 us (omega arith)
+
+  rest : length (drop 3 us) ≡ arities (replicate n i)
+  rest = rw (length-drop, arities-one n i one) (omega arith)
+
+  list-was : (is : List Item) → arities is ≡ 3 → layWith g (is ++ replicate n i) us ≡ layWith g is (take 3 us) ++ layWith g (replicate n i) (drop 3 us)
+  list-was is a = ap (λ (l : List ℕ). layWith g (is ++ replicate n i) l) (sym (take-append-drop 3 us)) ∙ lay-append g is (replicate n i) (take 3 us) (drop 3 us) (first ∙ sym a)
+
+  list-is : (is : List Item) (v : ℕ) → arities is ≡ 3
+      → layWith g (is ++ replicate (suc n) i) (us ++ (v ∷ [])) ≡ layWith g is (take 3 us) ++ (layWith g (replicate n i) (drop 3 us) ++ layWith g (i ∷ []) (v ∷ []))
+  list-is is v a =
+      let e : us ++ (v ∷ []) ≡ take 3 us ++ (drop 3 us ++ (v ∷ [])) = ap (λ (l : List ℕ). l ++ (v ∷ [])) (sym (take-append-drop 3 us)) ∙ append-assoc (take 3 us) (drop 3 us) (v ∷ []) in
+      let b = lay-append g (replicate n i) (i ∷ []) (drop 3 us) (v ∷ []) rest in
+      rw (e, lay-append g is (replicate (suc n) i) (take 3 us) (drop 3 us ++ (v ∷ [])) (first ∙ sym a)) (ap (λ (l : List ℕ). layWith g is (take 3 us) ++ l) (rw replicate-snoc at b))
+
+-- one change within what was laid
+inside : (xs z f l x : List ℕ) (p i : ℕ) → p ≡ length z → i + length x ≤ length f → over (over xs 0 (z ++ (f ++ l))) (p + i) x ≡ over xs 0 (z ++ (over f i x ++ l))
+inside xs z f l x p i e h =
+    let b : length z + i + length x ≤ length (z ++ (f ++ l)) = rw (length-append, length-append) (omega arith) in
+    rw e (rw zero-add at (over-within xs (z ++ (f ++ l)) x 0 (length z + i) b) ∙ rw (over-right z (f ++ l) x i, over-left f l x i h))
+
+-- two changes, and some bytes at the end
+grew : (xs z f l x y tail : List ℕ) (p i j q : ℕ) → p ≡ length z → i + length x ≤ length f → j + length y ≤ length f → q ≡ p + (length f + length l)
+    → over (over (over (over xs 0 (z ++ (f ++ l))) (p + i) x) (p + j) y) q tail ≡ over xs 0 (z ++ (over (over f i x) j y ++ (l ++ tail)))
+grew xs z f l x y tail p i j q e h k m =
+    let w = over (over f i x) j y in
+    let n : q ≡ 0 + length (z ++ (w ++ l)) = rw (length-append, length-append, length-over, length-over) (omega arith) in
+    rw (inside xs z f l x p i e h, inside xs z (over f i x) l y p j e (rw length-over k))
+    (over-next xs 0 (z ++ (w ++ l)) _ q tail _ refl refl n ∙ ap (λ (l : List ℕ). over xs 0 l) (append-assoc z (w ++ l) tail ∙ ap (λ (r : List ℕ). z ++ r) (append-assoc w l tail)))
+
+module _ (g : ℕ → ℕ) (n : ℕ) (us : List ℕ) where
+  -- the bytes before a processor's resources
+  processorFront : ℕ → List ℕ
+  processorFront m = layWith g (take 7 (layout (processor m))) (take 3 us)
+
+  processor-front : over (over (processorFront n) 1 (le 1 (size (processor (suc n))))) 16 (le 4 (suc n)) ≡ processorFront (suc n)
+  unfolding processorFront layout layWith over le
+  processor-front = refl
+
+  -- the bytes before a side cache's handles
+  sideFront : ℕ → List ℕ
+  sideFront m = layWith g (take 9 (layout (side m))) (take 3 us)
+
+  side-front : over (over (sideFront n) 4 (le 4 (size (side (suc n))))) 30 (le 2 (suc n)) ≡ sideFront (suc n)
+  unfolding sideFront layout layWith over le
+  side-front = refl
+
+  length-processor : (m : ℕ) → length (processorFront m) ≡ 20
+  unfolding processorFront layout layWith le
+  length-processor m = refl
+
+  length-side : (m : ℕ) → length (sideFront m) ≡ 32
+  unfolding sideFront layout layWith le
+  length-side m = refl
+
+  module _ (l : length us ≡ 3 + n) where
+    processor-was : bytes g (node (processor n) us) ≡ processorFront n ++ layWith g (replicate n (to 1)) (drop 3 us)
+    unfolding bytes layout processorFront
+    processor-was = list-was g (to 1) refl n us l (take 7 (layout (processor n))) refl
+
+    processor-is : (v : ℕ) → bytes g (node (processor (suc n)) (us ++ (v ∷ []))) ≡ processorFront (suc n) ++ (layWith g (replicate n (to 1)) (drop 3 us) ++ le 4 (g v))
+    unfolding bytes layout processorFront
+    processor-is v = list-is g (to 1) refl n us l (take 7 (layout (processor (suc n)))) v refl ∙ rw (lay-one g (to 1) v)
+
+    side-was : bytes g (node (side n) us) ≡ sideFront n ++ layWith g (replicate n (fld 2)) (drop 3 us)
+    unfolding bytes layout sideFront
+    side-was = list-was g (fld 2) refl n us l (take 9 (layout (side n))) refl
+
+    side-is : (v : ℕ) → bytes g (node (side (suc n)) (us ++ (v ∷ []))) ≡ sideFront (suc n) ++ (layWith g (replicate n (fld 2)) (drop 3 us) ++ le 2 v)
+    unfolding bytes layout sideFront
+    side-is v = list-is g (fld 2) refl n us l (take 9 (layout (side (suc n)))) v refl ∙ rw (lay-one g (fld 2) v)
+
+-- ---- resources and handles
+
+pub data View : List Node → Newest → Type 0 where
+  seesProcessor : {n : ℕ} {us : List ℕ} {ns : List Node} → View (node (processor n) us ∷ ns) (aProcessor n us ns)
+  seesMatrix : {i t : ℕ} {us : List ℕ} {ns : List Node} → View (node (matrix i t) us ∷ ns) (aMatrix i t us ns)
+  seesSide : {n : ℕ} {us : List ℕ} {ns : List Node} → View (node (side n) us ∷ ns) (aSide n us ns)
+  seesOther : {ns : List Node} → View ns other
+
+view-as : (f : Form) (us : List ℕ) (ns : List Node) → View (node f us ∷ ns) (newestAs f us ns)
+view-as (processor n) us ns = seesProcessor
+view-as cache us ns = seesOther
+view-as memory us ns = seesOther
+view-as acpi us ns = seesOther
+view-as pci us ns = seesOther
+view-as rintc us ns = seesOther
+view-as domain us ns = seesOther
+view-as (matrix i t) us ns = seesMatrix
+view-as (side n) us ns = seesSide
+
+pub view : (ns : List Node) → View ns (newest ns)
+view [] = seesOther
+view (n ∷ ns) = view-as (n .form) (n .values) ns
+
+count-processor : (n : ℕ) → arities (layout (processor n)) ≡ 3 + n
+unfolding layout
+count-processor n = rw (arities-one n (to 1) refl) (omega arith)
+
+count-side : (n : ℕ) → arities (layout (side n)) ≡ 3 + n
+unfolding layout
+count-side n = rw (arities-one n (fld 2) refl) (omega arith)
+
+-- one field
+alone : (vs : List ℕ) → length vs ≡ 1 → vs ≡ at vs 0 ∷ []
+alone [] l = absurd (omega arith)
+alone (v ∷ []) l = refl
+alone (v ∷ w ∷ vs) l = absurd (omega arith)
+
+module _ (xs fs : List ℕ) (s : State) (out : List ℕ) where
+  resource-one : (n v : ℕ) (us : List ℕ) (ns : List Node) → Laid xs fs pptt (node (processor n) us ∷ ns) s out → n < 58
+      → refsGood (atOrdinal (starts pptt ns)) (body Resource) (v ∷ []) ≡ true
+      → Turned xs fs pptt (node (processor n) us ∷ ns) (node (processor (suc n)) (us ++ (v ∷ [])) ∷ ns) (growing s 20 4) (processors.grown out (s .latest .place) (s .latest .count) (record { 0 = placeIn out v }))
+  unfolding records sizes processors.grown body refsGood
+  resource-one n v us ns h few r =
+      let g = placeOf (starts pptt ns) in
+      let z = fs ++ records pptt ns in
+      let l : length us ≡ 3 + n = fit-length (layout (processor n)) us (h .good .0 .fit) ∙ count-processor n in
+      let f = processorFront g n us n in
+      let js = layWith g (replicate n (to 1)) (drop 3 us) in
+      let old = processor-was g n us l in
+      let lf : length f ≡ 20 = length-processor g n us n in
+      let lb : length (f ++ js) ≡ 20 + 4 * n = rw old at (length-bytes g (node (processor n) us)) in
+      let lj : length js ≡ 4 * n = omega (arith, rw length-append at lb) in
+      let lz : length z ≡ 36 + sizes ns = rw (length-append, length-records) (omega (arith, h .long)) in
+      let e : out ≡ over xs 0 (fs ++ (records pptt ns ++ bytes g (node (processor n) us))) = h .held in
+      let place : placeIn out v ≡ g v =
+      ap (λ (o : List ℕ). placeIn o v) e ∙ named-place xs fs (bytes g (node (processor n) us)) ns (h .long) (rw (length-append, length-append, length-records, length-bytes) (omega (arith, h .long, h .room))) (h .good .1) (omega (arith, h .short)) v 1 (both-true (atOrdinal (starts pptt ns) v 1) true r .0) in
+      let o : out ≡ over xs 0 (z ++ (f ++ js)) = e ∙ rw (old, append-assoc) in
+      let w = grew xs z f js (le 1 (size (processor (suc n)))) (le 4 (suc n)) (le 4 (g v)) (s .latest .place) 1 16 (s .latest .place + size (processor n)) (h .place ∙ sym lz) (rw length-le (omega arith)) (rw length-le (omega arith)) (omega arith) in
+      changed xs fs pptt ns (node (processor n) us) (node (processor (suc n)) (us ++ (v ∷ []))) (growing s 20 4) _ [] f (processorFront g n us (suc n)) js (le 4 (g v))
+      (h .long) old (processor-is g n us l v) (length-processor g n us (suc n) ∙ sym lf) (h .place ∙ omega arith) (sym lf) (sym (length-le 4 (g v))) (h .place) (ap (λ (k : ℕ). k + 1) (h .counts) ∙ add-one n) (omega (arith, h .counts))
+      (rw (h .counts, add-one n, place, o) (w ∙ rw (processor-front g n us, ← processor-is g n us l v)))
+
+  handle-one : (n v : ℕ) (us : List ℕ) (ns : List Node) → Laid xs fs hmat (node (side n) us ∷ ns) s out → n < 65535
+      → Turned xs fs hmat (node (side n) us ∷ ns) (node (side (suc n)) (us ++ (v ∷ [])) ∷ ns) (growing s 32 2) (sides.grown out (s .latest .place) (s .latest .count) v)
+  unfolding records sizes sides.grown
+  handle-one n v us ns h few =
+      let g = placeOf (starts hmat ns) in
+      let z = fs ++ records hmat ns in
+      let l : length us ≡ 3 + n = fit-length (layout (side n)) us (h .good .0 .fit) ∙ count-side n in
+      let f = sideFront g n us n in
+      let js = layWith g (replicate n (fld 2)) (drop 3 us) in
+      let old = side-was g n us l in
+      let lf : length f ≡ 32 = length-side g n us n in
+      let lb : length (f ++ js) ≡ 32 + 2 * n = rw old at (length-bytes g (node (side n) us)) in
+      let lj : length js ≡ 2 * n = omega (arith, rw length-append at lb) in
+      let lz : length z ≡ 40 + sizes ns = rw (length-append, length-records) (omega (arith, h .long)) in
+      let o : out ≡ over xs 0 (z ++ (f ++ js)) = h .held ∙ rw (old, append-assoc) in
+      let w = grew xs z f js (le 4 (size (side (suc n)))) (le 2 (suc n)) (le 2 v) (s .latest .place) 4 30 (s .latest .place + 32 + 2 * n) (h .place ∙ sym lz) (rw length-le (omega arith)) (rw length-le (omega arith)) (omega arith) in
+      changed xs fs hmat ns (node (side n) us) (node (side (suc n)) (us ++ (v ∷ []))) (growing s 32 2) _ [] f (sideFront g n us (suc n)) js (le 2 v)
+      (h .long) old (side-is g n us l v) (length-side g n us (suc n) ∙ sym lf) (h .place ∙ omega arith) (sym lf) (sym (length-le 2 v)) (h .place) (ap (λ (k : ℕ). k + 1) (h .counts) ∙ add-one n) (omega (arith, h .counts))
+      (rw (h .counts, add-one n, o) (w ∙ rw (side-front g n us, ← side-is g n us l v)))
+
+-- ---- settings
+
+entry-below : (a b i t : ℕ) → a < i → b < t → a * t + b < i * t
+entry-below a b i t h k =
+    let m : suc a * t ≤ i * t = mul-le-mul h (omega arith) in
+    omega (arith, rw suc-mul at m)
+
+-- a setting lies within its record
+within : (i t : ℕ) (x : Setting) → matrices.Inside i t x → matrices.placeIn 0 i t x + matrices.wideIn x ≤ size (matrix i t)
+within i t (initiator j v) h = omega arith
+within i t (target j v) h = omega arith
+within i t (cell j k v) (h, m) = let b = entry-below j k i t h m in omega arith
+
+offset : (p i t : ℕ) (x : Setting) → matrices.placeIn p i t x ≡ p + matrices.placeIn 0 i t x
+offset p i t (initiator j v) = omega arith
+offset p i t (target j v) = omega arith
+offset p i t (cell j k v) = omega arith
+
+-- the record with a setting is the record with other bytes at its place
+set-bytes : (g : ℕ → ℕ) (i t : ℕ) (us : List ℕ) (x : Setting) → length us ≡ arities (layout (matrix i t)) → matrices.Inside i t x
+    → bytes g (node (matrix i t) (set us (spot i t x) (setTo x))) ≡ over (bytes g (node (matrix i t) us)) (matrices.placeIn 0 i t x) (le (matrices.wideIn x) (setTo x))
+set-bytes g i t us x l h =
+    let b = bytes g (node (matrix i t) us) in
+    let n = bytes g (node (matrix i t) (set us (spot i t x) (setTo x))) in
+    let e : length n ≡ length b = rw (length-bytes, length-bytes) in
+    sym (over-all b n e) ∙ sym (set-in-place g i t b 0 us x l h) ∙ rw (over-all b b refl)
+
+split-at : (b : List ℕ) (k w : ℕ) → b ≡ take k b ++ (part b k w ++ drop (k + w) b)
+unfolding part
+split-at b k w = sym (rw (← drop-drop, take-append-drop w (drop k b)) (take-append-drop k b))
+
+module _ (xs fs : List ℕ) (s : State) (out : List ℕ) where
+  setting-one : (i t : ℕ) (us : List ℕ) (ns : List Node) (x : Setting) → Laid xs fs hmat (node (matrix i t) us ∷ ns) s out → matrices.Inside i t x
+      → Turned xs fs hmat (node (matrix i t) us ∷ ns) (node (matrix i t) (set us (spot i t x) (setTo x)) ∷ ns) (setting-of s x) (sets s x out)
+  unfolding records sizes
+  setting-one i t us ns x h inn =
+      let g = placeOf (starts hmat ns) in
+      let z = fs ++ records hmat ns in
+      let b = bytes g (node (matrix i t) us) in
+      let k = matrices.placeIn 0 i t x in
+      let w = matrices.wideIn x in
+      let cs = le w (setTo x) in
+      let l = fit-length (layout (matrix i t)) us (h .good .0 .fit) in
+      let new = set-bytes g i t us x l inn in
+      let lb : length b ≡ size (matrix i t) = length-bytes g (node (matrix i t) us) in
+      let lc : length cs ≡ w = length-le w (setTo x) in
+      let m = within i t x inn in
+      let lk : length (take k b) ≡ k = length-take-le k b (omega arith) in
+      let lz : length z ≡ 40 + sizes ns = rw (length-append, length-records) (omega (arith, h .long)) in
+      let at-place : settingAt s x ≡ s .latest .place + k = rw (h .counts .0, h .counts .1) (offset (s .latest .place) i t x) in
+      let o : out ≡ over xs 0 (z ++ (b ++ [])) = h .held ∙ rw (append-nil, append-assoc) in
+      changed xs fs hmat ns (node (matrix i t) us) (node (matrix i t) (set us (spot i t x) (setTo x))) (setting-of s x) _ (take k b) (part b k w) cs (drop (k + w) b) []
+      (h .long) (split-at b k w) (new ∙ over-fits b k cs (omega arith) ∙ rw (lc, append-nil)) (lc ∙ sym (length-part b k w (omega arith))) (at-place ∙ omega (arith, h .place)) (sym (length-part b k w (omega arith))) refl (h .place) (h .counts) (h .few)
+      (rw (at-place, o) (inside xs z b [] cs (s .latest .place) k (h .place ∙ sym lz) (omega arith) ∙ rw (append-nil, ← new)))
+
+  resource-turned : (vs : List ℕ) → Fit (body Resource) vs → {ns : List Node} {x : Newest} → View ns x → resource vs x .placed ≡ true → resource vs x .full ≡ false
+      → refsGood (atOrdinal (starts pptt (resource vs x .earlier))) (body Resource) vs ≡ true → Laid xs fs pptt ns s out
+      → Turned xs fs pptt ns (resource vs x .nodes) (growing s 20 4) (processors.grown out (s .latest .place) (s .latest .count) (record { 0 = placeIn out (at vs 0) }))
+  unfolding resource body
+  resource-turned vs f (seesProcessor {n} {us} {ns}) p e r h =
+      let a = alone vs (fit-length (body Resource) vs f) in
+      rw a (resource-one xs fs s out n (at vs 0) us ns h (omega (arith, leb-false 58 n e)) (rw a at r))
+  resource-turned vs f seesMatrix p e r h = none-named p
+  resource-turned vs f seesSide p e r h = none-named p
+  resource-turned vs f seesOther p e r h = none-named p
+
+  handle-turned : (vs : List ℕ) → Fit (body Handle) vs → {ns : List Node} {x : Newest} → View ns x → handle vs x .placed ≡ true → handle vs x .full ≡ false → Laid xs fs hmat ns s out
+      → Turned xs fs hmat ns (handle vs x .nodes) (growing s 32 2) (sides.grown out (s .latest .place) (s .latest .count) (at vs 0))
+  unfolding handle body
+  handle-turned vs f seesProcessor p e h = none-named p
+  handle-turned vs f seesMatrix p e h = none-named p
+  handle-turned vs f (seesSide {n} {us} {ns}) p e h =
+      let a = alone vs (fit-length (body Handle) vs f) in
+      rw a (handle-one xs fs s out n (at vs 0) us ns h (omega (arith, leb-false 65535 n e)))
+  handle-turned vs f seesOther p e h = none-named p
+
+  setting-turned : (tests : ℕ → ℕ → List Bool) (x : Setting) → ((i t : ℕ) → all (tests i t) ≡ true → matrices.Inside i t x) → {ns : List Node} {y : Newest} → View ns y
+      → setting tests (λ i t. spot i t x) (setTo x) y .placed ≡ true → all (setting tests (λ i t. spot i t x) (setTo x) y .ranges) ≡ true → Laid xs fs hmat ns s out
+      → Turned xs fs hmat ns (setting tests (λ i t. spot i t x) (setTo x) y .nodes) (setting-of s x) (sets s x out)
+  unfolding setting
+  setting-turned tests x inn seesProcessor p r h = none-named p
+  setting-turned tests x inn (seesMatrix {i} {t} {us} {ns}) p r h = setting-one i t us ns x h (inn i t r)
+  setting-turned tests x inn seesSide p r h = none-named p
+  setting-turned tests x inn seesOther p r h = none-named p
+
+-- ---- every kind
+
+plain : (f g : ℕ → ℕ) (x : Form) (vs : List ℕ) → Plain (layout x) → bytes f (node x vs) ≡ bytes g (node x vs)
+unfolding bytes
+plain f g x vs p = lay-plain f g (layout x) vs p
+
+module _ {xs fs : List ℕ} {ns : List Node} {s : State} {out : List ℕ} where
+  among : Laid xs fs pptt ns s out → (n : Node) → Good pptt (n ∷ ns) → bytes (placeIn out) n ≡ bytes (placeOf (starts pptt ns)) n
+  unfolding bytes
+  among h n g =
+      let e : out ≡ over xs 0 (fs ++ (records pptt ns ++ [])) = h .held ∙ rw append-nil in
+      rw e (pptt-agrees xs fs [] ns (h .long) (rw (append-nil, length-append, length-records) (omega (arith, h .long, h .room))) (h .good) (h .short) (layout (n .form)) (n .values) (g .0 .refs))
+
+  pub turned : (k : Kind) (vs : List ℕ) → Laid xs fs (kindHome k) ns s out → Fit (body k) vs → Passed (kindHome k) ns k vs → Good (kindHome k) (added k vs ns)
+      → Turned xs fs (kindHome k) ns (added k vs ns) (changeOf k s vs) (wrote k s vs out)
+  unfolding step changeOf wrote layout
+  turned Processor vs h f p g = made h (node (processor 0) vs) 0 0 refl (among h (node (processor 0) vs) g)
+  turned Resource vs h f p g = resource-turned xs fs s out vs f (view ns) (p .place) (p .room) (p .refs) h
+  turned Cache vs h f p g = made h (node cache vs) 0 0 tt (among h (node cache vs) g)
+  turned Memory vs h f p g = made h (node memory vs) 0 0 tt (plain (placeIn out) (placeOf (starts srat ns)) memory vs tt)
+  turned Acpi vs h f p g = made h (node acpi vs) 0 0 tt (plain (placeIn out) (placeOf (starts srat ns)) acpi vs tt)
+  turned Pci vs h f p g = made h (node pci vs) 0 0 tt (plain (placeIn out) (placeOf (starts srat ns)) pci vs tt)
+  turned Rintc vs h f p g = made h (node rintc vs) 0 0 tt (plain (placeIn out) (placeOf (starts srat ns)) rintc vs tt)
+  turned Domain vs h f p g = made h (node domain vs) 0 0 tt (plain (placeIn out) (placeOf (starts hmat ns)) domain vs tt)
+  turned Matrix vs h f p g = made h (unsetMatrix vs) (at vs 4) (at vs 5) (refl, refl) (plain (placeIn out) (placeOf (starts hmat ns)) (matrix (at vs 4) (at vs 5)) (unsetMatrix vs .values) (plain-matrix (at vs 4) (at vs 5)))
+  turned Initiator vs h f p g =
+      setting-turned xs fs s out (λ i t. ltb (at vs 0) i ∷ []) (initiator (at vs 0) (at vs 1)) (λ i t r. ltb-true (at vs 0) i r) (view ns) (p .place) (p .field) h
+  turned Target vs h f p g =
+      setting-turned xs fs s out (λ i t. ltb (at vs 0) t ∷ []) (target (at vs 0) (at vs 1)) (λ i t r. ltb-true (at vs 0) t r) (view ns) (p .place) (p .field) h
+  turned Cell vs h f p g =
+      setting-turned xs fs s out (λ i t. ltb (at vs 0) i ∷ ltb (at vs 1) t ∷ []) (cell (at vs 0) (at vs 1) (at vs 2))
+      (λ i t r. let (a, b) = both-true (ltb (at vs 0) i) (ltb (at vs 1) t) r in (ltb-true (at vs 0) i a, ltb-true (at vs 1) t b)) (view ns) (p .place) (p .field) h
+  turned Side vs h f p g = made h (node (side 0) vs) 0 0 refl (plain (placeIn out) (placeOf (starts hmat ns)) (side 0) vs tt)
+  turned Handle vs h f p g = handle-turned xs fs s out vs f (view ns) (p .place) (p .room) h

@@ -1,0 +1,131 @@
+-- A walk by length bytes finds the place of a record: by induction over the nodes, the newest first.
+use mathlib.Core.Path.{_≡_, refl, sym, ap, _∙_}
+use Prim.Native.Nat.{ℕ, zero, suc, _+_, _-_, _%_, _≤_, _<_}
+use mathlib.Core.List.{List, [], _∷_, _++_, append-assoc}
+use mathlib.Core.Bool.{Bool, true, false}
+use native.Mathlib.Omega.{arith}
+use native.Mathlib.Nat.{add-zero, mod-eq-of-lt}
+use lib.ListN.{length, drop}
+use lib.Seq.{getD-append-add}
+use lib.Dec.{eqb}
+use borrow.Author.Tests.{eqb-true, eqb-false, ne-eqb}
+use Rattle.format.specs.Bytes.{pick, at, le, over}
+use Rattle.format.specs.Layout.{layWith}
+use Rattle.format.specs.Table.{Table, pptt, limit}
+use Rattle.format.specs.Form.{Form, processor, cache, memory, acpi, pci, rintc, domain, matrix, side, size, layout}
+use Rattle.format.specs.Node.{Node, bytes, sizes, starts, placeOf}
+use Rattle.format.specs.Build.{records}
+use Rattle.laws.proofs.Bytes.{over-fits}
+use Rattle.laws.proofs.Shapes.{Within, tableFor}
+use Rattle.laws.proofs.Heads.{length-records}
+use Rattle.laws.proofs.Links.{place-zero, place-below, starts-rise}
+use Rattle.laws.proofs.Good.{Good}
+use Rattle.build.specs.Write.{hops, placeIn}
+
+-- ---- the walk's loop
+
+pub walk-turn : (bs : List ℕ) (k i p b : ℕ) → i < k → b ≡ at bs (p + 1) → hops bs (k - (i + 1)) (p + b) ≡ hops bs (k - i) p
+unfolding hops
+walk-turn bs k i p b h e =
+    let m : k - i ≡ suc (k - (i + 1)) = omega arith in
+    rw (m, e)
+
+pub place-none : (bs : List ℕ) (k : ℕ) → k ≡ 0 → placeIn bs k ≡ 0
+unfolding placeIn
+place-none bs k e = rw e
+
+hops-zero : (bs : List ℕ) (n p : ℕ) → n ≡ 0 → hops bs n p ≡ p
+unfolding hops
+hops-zero bs n p e = rw e
+
+pub place-end : (bs : List ℕ) (k i p : ℕ) → 1 ≤ k → k ≤ i → hops bs (k - i) p ≡ hops bs (k - 1) 36 → p % 4294967296 ≡ placeIn bs k
+unfolding placeIn
+place-end bs k i p h j e = rw (ne-eqb k 0 (λ z. omega arith), ← e, hops-zero bs (k - i) p (omega arith))
+
+-- ---- among records
+
+length-byte : (g : ℕ → ℕ) (f : Form) (vs rest : List ℕ) → tableFor f ≡ pptt → Within f → at (layWith g (layout f) vs ++ rest) 1 ≡ size f
+unfolding layWith layout le
+length-byte g (processor n) vs rest o w = omega arith
+length-byte g cache vs rest o w = refl
+length-byte g memory vs rest o w = cc
+length-byte g acpi vs rest o w = cc
+length-byte g pci vs rest o w = cc
+length-byte g rintc vs rest o w = cc
+length-byte g domain vs rest o w = cc
+length-byte g (matrix i t) vs rest o w = cc
+length-byte g (side n) vs rest o w = cc
+
+hops-last : (bs : List ℕ) (k p : ℕ) → hops bs (suc k) p ≡ hops bs k p + at bs (hops bs k p + 1)
+unfolding hops
+hops-last bs zero p = refl
+hops-last bs (suc k) p = hops-last bs k (p + at bs (p + 1))
+
+-- the byte behind a place among the records
+behind : (xs rs bs : List ℕ) (p : ℕ) → p ≡ length xs + length rs → at (xs ++ (rs ++ bs)) (p + 1) ≡ at bs 1
+behind xs rs bs p e =
+    let d : p + 1 ≡ length xs + (length rs + 1) = omega arith in
+    rw (d, getD-append-add xs (rs ++ bs) (length rs + 1) 0, getD-append-add rs bs 1 0)
+
+regroup : (xs zs : List ℕ) (n : Node) (ns : List Node) → xs ++ (records pptt (n ∷ ns) ++ zs) ≡ xs ++ (records pptt ns ++ (bytes (placeOf (starts pptt ns)) n ++ zs))
+unfolding records
+regroup xs zs n ns = ap (λ (ys : List ℕ). xs ++ ys) (append-assoc (records pptt ns) (bytes (placeOf (starts pptt ns)) n) zs)
+
+hops-none : (bs : List ℕ) (p : ℕ) → hops bs 0 p ≡ p + 0
+unfolding hops
+hops-none bs p = sym (add-zero p)
+
+own-length : (g : ℕ → ℕ) (n : Node) (zs : List ℕ) → tableFor (n .form) ≡ pptt → Within (n .form) → at (bytes g n ++ zs) 1 ≡ size (n .form)
+unfolding bytes
+own-length g n zs o w = length-byte g (n .form) (n .values) zs o w
+
+-- as many hops as there are nodes lead to the end. xs: the front; zs: whatever follows
+hops-end : (xs zs : List ℕ) (ns : List Node) → Good pptt ns → hops (xs ++ (records pptt ns ++ zs)) (length ns) (length xs) ≡ length xs + sizes ns
+unfolding sizes
+hops-end xs zs [] s = hops-none (xs ++ (records pptt [] ++ zs)) (length xs)
+hops-end xs zs (n ∷ ns) s =
+    let g = placeOf (starts pptt ns) in
+    let b = bytes g n ++ zs in
+    let out = xs ++ (records pptt ns ++ b) in
+    let h : hops out (length ns) (length xs) ≡ length xs + sizes ns = hops-end xs b ns (s .1) in
+    let y : at out (length xs + sizes ns + 1) ≡ size (n .form) =
+    behind xs (records pptt ns) b (length xs + sizes ns) (rw (length-records pptt ns)) ∙ own-length g n zs (s .0 .own) (s .0 .within) in
+    rw (regroup xs zs n ns, hops-last out (length ns) (length xs), h, y) (omega arith)
+
+pub length-starts : (t : Table) (ns : List Node) → length (starts t ns) ≡ length ns
+unfolding starts
+length-starts t [] = refl
+length-starts t (n ∷ ns) = ap suc (length-starts t ns)
+
+at-place : (xs zs : List ℕ) (n : Node) (ns : List Node) (k : ℕ) (x : Bool) → length xs ≡ 36 → Good pptt ns → eqb (suc (length ns)) (suc k) ≡ x → k < suc (length ns)
+    → (k < length ns → (ys : List ℕ) → hops (xs ++ (records pptt ns ++ ys)) k (length xs) ≡ placeOf (starts pptt ns) (suc k))
+    → hops (xs ++ (records pptt (n ∷ ns) ++ zs)) k (length xs) ≡ pick x (36 + sizes ns) (placeOf (starts pptt ns) (suc k))
+at-place xs zs n ns k true l s q h ih =
+    let e : suc (length ns) ≡ suc k = eqb-true (suc (length ns)) (suc k) q in
+    let d : k ≡ length ns = omega arith in
+    rw (regroup xs zs n ns, d, hops-end xs (bytes (placeOf (starts pptt ns)) n ++ zs) ns s, l)
+at-place xs zs n ns k false l s q h ih =
+    let d : k < length ns = (let f : suc (length ns) ≡ suc k → ⊥ = eqb-false (suc (length ns)) (suc k) q in omega (arith, f)) in
+    rw (regroup xs zs n ns) (ih d (bytes (placeOf (starts pptt ns)) n ++ zs))
+
+-- k hops from the front lead to node k + 1
+place-found : (xs zs : List ℕ) (ns : List Node) (k : ℕ) → length xs ≡ 36 → Good pptt ns → k < length ns
+    → hops (xs ++ (records pptt ns ++ zs)) k (length xs) ≡ placeOf (starts pptt ns) (suc k)
+unfolding starts placeOf
+place-found xs zs [] k l s h = absurd (omega arith)
+place-found xs zs (n ∷ ns) k l s h =
+    rw (length-starts pptt ns) (at-place xs zs n ns k (eqb (suc (length ns)) (suc k)) l (s .1) refl h (λ j ys. place-found xs ys ns k l (s .1) j))
+
+module _ (xs fs ys : List ℕ) (ns : List Node) (l : length fs ≡ 36) (room : length (fs ++ (records pptt ns ++ ys)) ≤ length xs) (g : Good pptt ns) (short : 36 + sizes ns ≤ limit) where
+  -- in a buffer with these nodes, and whatever follows, an ordinal leads to the node's place
+  pub place-among : (k : ℕ) → k ≤ length ns → placeIn (over xs 0 (fs ++ (records pptt ns ++ ys))) k ≡ placeOf (starts pptt ns) k
+  unfolding placeIn
+  place-among zero j = sym (place-zero (starts pptt ns))
+  place-among (suc k) j =
+      let z = fs ++ (records pptt ns ++ ys) in
+      let rest = drop (0 + length z) xs in
+      let f = place-found fs (ys ++ rest) ns k l g (omega arith) in
+      let s : suc k - 1 ≡ k = omega arith in
+      let e : z ++ rest ≡ fs ++ (records pptt ns ++ (ys ++ rest)) = simp append-assoc in
+      let b : placeOf (starts pptt ns) (suc k) < 36 + sizes ns = place-below (36 + sizes ns) (starts pptt ns) (suc k) (starts-rise pptt ns) in
+      rw (ne-eqb (suc k) 0 (λ z. omega arith), s, over-fits xs 0 z (omega arith), e, rw l at f) (mod-eq-of-lt (omega arith))

@@ -1,0 +1,40 @@
+-- `write` meets its contract: from the front over all records to the length and the checksum.
+use native.Mathlib.Omega.{arith}
+use borrow.Author.Needs.{needs}
+use Rattle.header.specs.Header.{meant}
+use Rattle.build.proofs.Steps.{ended}
+use Rattle.build.proofs.write.Statement.{statement}
+use Rattle.build.proofs.write.Tie as tie
+
+put-records-requires : tie.Need-put-records-requires
+put-records-requires c κs =
+    let b = c .before .before .before .before .before .before .before in
+    record { start = b .args .out .now; meant = b .pre .meant; holds = c .before .before .before .start .ensures .1 (b .pre .meant) (b .pre .means) }
+
+cast-put-u32 : tie.Need-cast-put-u32
+cast-put-u32 c =
+    let b = c .before .before .before .before .before .before .before .before .before .before .before .before .before in
+    let h = c .before .before .before .before .before .put-records .ensures .1 (b .args .out .now) (b .pre .meant) (c .before .before .before .before .before .before .before .before .before .start .ensures .1 (b .pre .meant) (b .pre .means)) in
+    omega (arith, h .ends, h .short)
+
+returns : tie.Need-returns
+returns c =
+    let b = c .before .before .before .before .before .before .before .before .before .before .before .before .before .before .before .before .before .before .before .before in
+    let a = b .args in
+    let m = b .pre .meant in
+    let put = c .before .before .before .before .before .before .before .before .before .before .before .before .put-records in
+    let h = put .ensures .1 (a .out .now) m (c .before .before .before .before .before .before .before .before .before .before .before .before .before .before .before .before .start .ensures .1 m (b .pre .means)) in
+    ended (a .out .now) (a .recipe .now) (meant (a .table)) m (put .result) (put .last .1 .1 .0) (c .before .before .before .before .before .before .put-u32 .last .0) (c .before .before .put-u8 .last .0) (c .before .before .before .before .before .before .before .before .before .value .result) h (put .ensures .0) (b .pre .means) (c .before .before .before .before .before .before .put-u32 .ensures) (c .before .before .before .before .before .before .before .before .before .value .ensures) (c .before .before .put-u8 .ensures)
+
+pub write-spec : {M : Type 1} → statement M
+write-spec =
+    tie.close
+    (tie.spec
+    (λ c κs. search needs)
+    put-records-requires
+    (λ c κs. search needs)
+    cast-put-u32
+    (λ c κs. search needs)
+    (λ c κs. search needs)
+    (λ c. search needs)
+    returns)

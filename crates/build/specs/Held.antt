@@ -1,0 +1,68 @@
+-- What the buffer and the numbers of the pass hold between two records: the table of the nodes so far, before its length and its checksum are written.
+use mathlib.Core.Path.{_≡_}
+use Prim.Native.Nat.{ℕ, _+_, _%_, _≤_}
+use mathlib.Core.List.{List, _++_}
+use lib.ListN.{length, drop}
+use Rattle.format.specs.Bytes.{Bytes, part, over, sum, given}
+use Rattle.format.specs.Table.{Table, Head, headOf, front, limit}
+use Rattle.format.specs.Node.{Node, sizes}
+use Rattle.format.specs.Recipe.{Meaning, Newest, aProcessor, aMatrix, aSide, other, newest, cut, run, meaning}
+use Rattle.format.specs.Build.{records, header}
+use Rattle.laws.proofs.Good.{Good}
+use Rattle.build.specs.declared.Latest.{Latest}
+use Rattle.build.specs.declared.State.{State}
+
+-- the head of a recipe for a table
+abbrev pub headIn : Table → List ℕ → Head
+headIn t r = headOf t (part r 2 26)
+
+-- the front of a table of n bytes, without its checksum
+abbrev pub frontOf : Table → List ℕ → ℕ → List ℕ
+frontOf t r n = header (headIn t r) 0 n 0
+
+-- the counts of the newest record, if another can join it
+abbrev pub Counts : Newest → Latest → Type 0
+Counts (aProcessor n us ns) l = l .count ≡ n
+Counts (aMatrix i t us ns) l = (l .initiators ≡ i) × (l .targets ≡ t)
+Counts (aSide n us ns) l = l .count ≡ n
+Counts other l = Unit
+
+-- xs: the buffer at the start; m: what the recipe r means
+pub record Held (xs r : List ℕ) (t : Table) (m : Meaning) (s : State) (out : List ℕ) : Type 0 where
+  pub bytes : Bytes r
+  pub whole : 28 ≤ length r
+  pub space : front t + sizes (m .nodes) ≤ length xs
+  pub nodes : List Node
+  pub good : Good t nodes
+  pub short : front t + sizes nodes ≤ limit
+  pub since : ℕ
+  pub leads : run (headIn t r) since nodes (cut t 0 (s .at) (drop (s .at) r)) ≡ given m
+  pub ends : s .end ≡ front t + sizes nodes
+  pub place : s .latest .place ≡ front t + sizes (drop 1 nodes)
+  pub counts : Counts (newest nodes) (s .latest)
+  pub few : s .latest .count ≤ 65535
+  pub held : out ≡ over xs 0 (frontOf t r (front t) ++ records t nodes)
+  pub sums : s .sum .value ≡ sum (frontOf t r (s .end) ++ records t nodes) % 256
+
+-- the same of some buffer and some meaning: what a step relies on
+pub record Ready (r : List ℕ) (t : Table) (s : State) (out : List ℕ) : Type 0 where
+  pub start : List ℕ
+  pub meant : Meaning
+  pub holds : Held start r t meant s out
+
+-- what a step gives: it goes on to the same meaning
+abbrev pub Goes : List ℕ → Table → State → List ℕ → State → List ℕ → Type 0
+Goes r t s out s′ out′ = (xs : List ℕ) (m : Meaning) → Held xs r t m s out → Held xs r t m s′ out′
+
+-- the numbers of a state are small
+pub record Small (s : State) : Type 0 where
+  pub end : s .end ≤ limit
+  pub place : s .latest .place ≤ limit
+  pub few : s .latest .count ≤ 65535
+
+-- a recipe for the table builds, and n bytes are room enough
+pub record Builds (r : List ℕ) (t : Table) (n : ℕ) : Type 0 where
+  pub meant : Meaning
+  pub means : meaning r ≡ given meant
+  pub for : meant .head .table ≡ t
+  pub room : front t + sizes (meant .nodes) ≤ n

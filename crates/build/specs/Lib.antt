@@ -1,0 +1,3 @@
+pub mod Write
+pub mod Held
+pub mod Answers

@@ -1,0 +1,40 @@
+-- `Kind::body_len` meets its contract: the widths of each body are added up.
+use borrow.Author.Needs.{needs}
+use Rattle.format.specs.Layout.{width}
+use Rattle.format.specs.Kind.{body}
+use Rattle.recipe.proofs.Kind.body_len.Statement.{statement}
+use Rattle.recipe.proofs.Kind.body_len.Tie as tie
+
+pub body-len-spec : {M : Type 1} → statement M
+unfolding width body
+body-len-spec =
+    tie.close
+    (tie.spec
+    (λ c. search needs)
+    (λ c. search needs)
+    (λ c. search needs)
+    (λ c. search needs)
+    (λ c. search needs)
+    (λ c. search needs)
+    (λ c. search needs)
+    (λ c. search needs)
+    (λ c. search needs)
+    (λ c. search needs)
+    (λ c. search needs)
+    (λ c. search needs)
+    (λ c. search needs)
+    (λ c. search needs)
+    (λ c. search needs)
+    (λ c. search needs)
+    (λ c. search needs)
+    (λ c. search needs)
+    (λ c. search needs)
+    (λ c. search needs)
+    (λ c. search needs)
+    (λ c. search needs)
+    (λ c. search needs)
+    (λ c. search needs)
+    (λ c. search needs)
+    (λ c. search needs)
+    (λ c. search needs)
+    (λ c. search needs))

@@ -1,0 +1,5 @@
+pub mod Numbers
+pub mod Refers
+pub mod Steps
+pub mod Walks
+pub mod Unique

@@ -1,0 +1,68 @@
+-- A byte that is none of a table's kind numbers names nothing there: no test on the way is passed.
+use mathlib.Core.Path.{_≡_}
+use Prim.Native.Nat.{ℕ, suc, _*_, _≤_, _<_}
+use mathlib.Core.Bool.{Bool, true, false, not}
+use mathlib.Core.Option.{none}
+use native.Mathlib.Nat.{mul-le-mul}
+use native.Mathlib.Omega.{arith}
+use borrow.Author.Tests.{ne-eqb, not-true, not-false}
+use Rattle.format.specs.Table.{Table, pptt, srat, hmat}
+use Rattle.format.specs.Layout.{width}
+use Rattle.format.specs.Kind.{Kind, Processor, Resource, Cache, Memory, Acpi, Pci, Rintc, Domain, Matrix, Initiator, Target, Cell, Side, Handle, kindOf, body}
+
+abbrev pub first : Table → ℕ
+first pptt = 16
+first srat = 32
+first hmat = 48
+
+abbrev pub last : Table → ℕ
+last pptt = 18
+last srat = 35
+last hmat = 54
+
+pub unnamed : (t : Table) (b : ℕ) → (first t ≤ b → b ≤ last t → ⊥) → kindOf t b ≡ none
+unfolding kindOf
+unnamed pptt b h = rw (ne-eqb b 16 (λ e. h (omega arith) (omega arith)), ne-eqb b 17 (λ e. h (omega arith) (omega arith)), ne-eqb b 18 (λ e. h (omega arith) (omega arith)))
+unnamed srat b h = rw (ne-eqb b 32 (λ e. h (omega arith) (omega arith)), ne-eqb b 33 (λ e. h (omega arith) (omega arith)), ne-eqb b 34 (λ e. h (omega arith) (omega arith)), ne-eqb b 35 (λ e. h (omega arith) (omega arith)))
+unnamed hmat b h = rw (ne-eqb b 48 (λ e. h (omega arith) (omega arith)), ne-eqb b 49 (λ e. h (omega arith) (omega arith)), ne-eqb b 50 (λ e. h (omega arith) (omega arith)), ne-eqb b 51 (λ e. h (omega arith) (omega arith)), ne-eqb b 52 (λ e. h (omega arith) (omega arith)), ne-eqb b 53 (λ e. h (omega arith) (omega arith)), ne-eqb b 54 (λ e. h (omega arith) (omega arith)))
+
+pub nowhere : (t : Table) (b : ℕ) → (16 ≤ b → b ≤ 18 → ⊥) → (32 ≤ b → b ≤ 35 → ⊥) → (48 ≤ b → b ≤ 54 → ⊥) → kindOf t b ≡ none
+nowhere pptt b p s h = unnamed pptt b p
+nowhere srat b p s h = unnamed srat b s
+nowhere hmat b p s h = unnamed hmat b h
+
+-- a number that is at least a, and not a
+pub past : {a b : ℕ} → a ≤ b → (b ≡ a → ⊥) → suc a ≤ b
+past h ne = omega (arith, ne)
+
+-- what a negated test says of what the tested call returns
+pub passes : {r x : Bool} → r ≡ x → not r ≡ false → x ≡ true
+passes {r} e h = rw e at (not-false r h)
+
+pub fails : {r x : Bool} → r ≡ x → not r ≡ true → x ≡ false
+fails {r} e h = rw e at (not-true r h)
+
+-- the cells of a matrix with counts of a byte each
+pub cells : (i t : ℕ) → i < 256 → t < 256 → i * t ≤ 65025
+cells i t h l =
+    let a : i ≤ 255 = omega arith in
+    let b : t ≤ 255 = omega arith in
+    mul-le-mul a b
+
+-- a body is short
+pub body-short : (k : Kind) → width (body k) ≤ 21
+unfolding width body
+body-short Processor = omega arith
+body-short Resource = omega arith
+body-short Cache = omega arith
+body-short Memory = omega arith
+body-short Acpi = omega arith
+body-short Pci = omega arith
+body-short Rintc = omega arith
+body-short Domain = omega arith
+body-short Matrix = omega arith
+body-short Initiator = omega arith
+body-short Target = omega arith
+body-short Cell = omega arith
+body-short Side = omega arith
+body-short Handle = omega arith

@@ -1,0 +1,233 @@
+-- What one record does to the state: the nodes that the state stands for grow by it, or the newest of them changes.
+use mathlib.Core.Path.{_≡_, refl, sym, ap, _∙_}
+use Prim.Native.Nat.{ℕ, suc, _+_, _≤_}
+use mathlib.Core.List.{List, [], _∷_, _++_}
+use mathlib.Core.Bool.{Bool, true, false, not}
+use native.Mathlib.Omega.{arith}
+use native.Mathlib.Nat.{add-assoc}
+use native.Mathlib.Numerals.{add-one}
+use lib.ListN.{length}
+use lib.Dec.{eqb, leb, ltb}
+use borrow.Author.Tests.{le-ltb}
+use denote.Enum.Declared.{tagOf}
+use types.Run.{OneOf, miss}
+use Rattle.format.specs.Bytes.{pick, both, all, firstOf, Answer, refused, given, unless, value, part}
+use Rattle.format.specs.Layout.{asIs, fields, refsGood}
+use Rattle.format.specs.Table.{Table, front, limit}
+use Rattle.format.specs.Form.{Form, processor, cache, memory, acpi, pci, rintc, domain, matrix, side, size, ranges}
+use Rattle.format.specs.Node.{Node, node, sizes, starts, atOrdinal}
+use Rattle.format.specs.Kind.{Kind, Processor, Resource, Cache, Handle, body}
+use Rattle.format.specs.Recipe.{Step as Asked, Newest, aProcessor, aMatrix, aSide, other, newest, newestAs, resource, handle, setting, stray, step, fault}
+use Rattle.laws.proofs.Offsets.{fields-at}
+use Rattle.header.specs.Header.{meant}
+use Rattle.recipe.specs.declared.Newest as kept
+use Rattle.recipe.specs.declared.Newest.the-variants as is
+use Rattle.recipe.specs.declared.State.{State}
+use Rattle.recipe.specs.declared.Refusal.the-variants.{TooLong}
+use Rattle.recipe.specs.declared.Step.{Step}
+use Rattle.recipe.specs.declared.Step.the-variants.{Next, Refused}
+use Rattle.recipe.specs.Machine.{newestKept, stateOf, Sound, grown, nodeTypes, names, stepped, turn, Begins}
+use Rattle.recipe.proofs.Newest.{the-type}
+use Rattle.recipe.proofs.Refers.{names-new, names-joined}
+
+-- ---- the tests one by one
+
+-- the answer by what a record of kind k asks for and does; vs: its fields, p: its place
+abbrev judged : Table → Kind → List ℕ → ℕ → Asked → Answer State
+judged t k vs p x =
+    pick (not (x .placed)) (refused 4 p)
+    (pick (not (all (x .ranges))) (refused 5 p)
+    (pick (not (refsGood (atOrdinal (starts t (x .earlier))) (body k) vs)) (refused 6 p)
+    (pick (x .full) (refused 7 p)
+    (pick (ltb limit (front t + sizes (x .nodes))) (refused 8 p) (given (stateOf t (x .nodes)))))))
+
+pub turn-judged : (t : Table) (ns : List Node) (k : Kind) (bs : List ℕ) (p : ℕ) → turn t ns k bs p ≡ judged t k (fields (body k) bs) p (step k (fields (body k) bs) ns)
+unfolding fault
+turn-judged t ns k bs p =
+    let vs : List ℕ = fields (body k) bs in
+    let x : Asked = step k vs ns in
+    go (not (x .placed)) (not (all (x .ranges))) (not (refsGood (atOrdinal (starts t (x .earlier))) (body k) vs)) (x .full) (ltb limit (front t + sizes (x .nodes))) (stateOf t (x .nodes))
+  where
+    go : (a b c d e : Bool) (s : State) → unless (firstOf ((a, 4) ∷ (b, 5) ∷ (c, 6) ∷ (d, 7) ∷ (e, 8) ∷ [])) p (given s)
+        ≡ pick a (refused 4 p) (pick b (refused 5 p) (pick c (refused 6 p) (pick d (refused 7 p) (pick e (refused 8 p) (given s)))))
+    go true b c d e s = refl
+    go false true c d e s = refl
+    go false false true d e s = refl
+    go false false false true e s = refl
+    go false false false false true s = refl
+    go false false false false false s = refl
+
+-- ---- the nodes grow
+
+-- the state with them, if the table is not too long
+pub grown-turn : (t : Table) (ns ms : List Node) (p : ℕ) (s : State) (n by : ℕ) (w : kept.Newest) → s ≡ stateOf t ns
+    → n ≡ length ms → front t + sizes ns + by ≡ front t + sizes ms → w ≡ newestKept (newest ms)
+    → stepped p (grown s n by w) ≡ pick (ltb limit (front t + sizes ms)) (refused 8 p) (given (stateOf t ms))
+grown-turn t ns ms p s n by w e a b c = rw (e, a, b, c) (go (ltb limit (front t + sizes ms)))
+  where
+    go : (x : Bool) → stepped p (pick x (Refused TooLong) (Next (stateOf t ms))) ≡ pick x (refused 8 p) (given (stateOf t ms))
+    go true = refl
+    go false = refl
+
+-- by a new node
+pub made-turn : (t : Table) (ns : List Node) (f : Form) (vs : List ℕ) (p : ℕ) (s : State) → s ≡ stateOf t ns
+    → stepped p (grown s (s .nodes + 1) (size f) (newestKept (newestAs f vs ns)))
+    ≡ pick (ltb limit (front t + sizes (node f vs ∷ ns))) (refused 8 p) (given (stateOf t (node f vs ∷ ns)))
+unfolding sizes
+made-turn t ns f vs p s e =
+    grown-turn t ns (node f vs ∷ ns) p s (s .nodes + 1) (size f) _ e (rw e (add-one (length ns))) (add-assoc (front t) (sizes ns) (size f)) refl
+
+-- ---- references
+
+both-end : (b : Bool) → both b true ≡ b
+both-end true = refl
+both-end false = refl
+
+-- the one reference of a body
+module _ (ok : ℕ → ℕ → Bool) (bs : List ℕ) where
+  processor-refs : refsGood ok (body Processor) (fields (body Processor) bs) ≡ pick (eqb (value (part bs 4 4)) 0) true (ok (value (part bs 4 4)) 0)
+  unfolding body refsGood
+  processor-refs = rw (fields-at asIs (body Processor) bs 0) (both-end _)
+
+  cache-refs : refsGood ok (body Cache) (fields (body Cache) bs) ≡ pick (eqb (value (part bs 1 4)) 0) true (ok (value (part bs 1 4)) 1)
+  unfolding body refsGood
+  cache-refs = rw (fields-at asIs (body Cache) bs 0) (both-end _)
+
+  resource-refs : refsGood ok (body Resource) (fields (body Resource) bs) ≡ ok (value (part bs 0 4)) 1
+  unfolding body refsGood
+  resource-refs = rw (fields-at asIs (body Resource) bs 0) (both-end _)
+
+-- new nodes that have one
+module _ (t : Table) (ns : List Node) (s : State) (e : s ≡ stateOf t ns) (r : List ℕ) (b : Begins r t ns) (p : ℕ) (bs : List ℕ) where
+  abbrev referred : ℕ → ℕ → Bool
+  referred to ty = pick (eqb to 0) true (names (nodeTypes (meant (s .table)) r) (s .nodes + 1) to ty)
+
+  pub processor-turn : turn t ns Processor bs p ≡ pick (not (referred (value (part bs 4 4)) 0)) (refused 6 p) (stepped p (grown s (s .nodes + 1) 20 (is.Processor 0)))
+  unfolding step
+  processor-turn =
+      turn-judged t ns Processor bs p
+      ∙ rw (processor-refs (atOrdinal (starts t ns)) bs, names-new r t ns s e b (value (part bs 4 4)) 0, made-turn t ns (processor 0) (fields (body Processor) bs) p s e)
+
+  pub cache-turn : turn t ns Cache bs p
+      ≡ pick (not (all (ranges cache (fields (body Cache) bs)))) (refused 5 p)
+      (pick (not (referred (value (part bs 1 4)) 1)) (refused 6 p) (stepped p (grown s (s .nodes + 1) 28 is.Other)))
+  unfolding step
+  cache-turn =
+      turn-judged t ns Cache bs p
+      ∙ rw (cache-refs (atOrdinal (starts t ns)) bs, names-new r t ns s e b (value (part bs 1 4)) 1, made-turn t ns cache (fields (body Cache) bs) p s e)
+
+-- ---- the newest node
+
+-- the nodes, by what is kept of the newest
+abbrev pub Parted : kept.Newest → List Node → Type 0
+Parted (is.Processor n) ns = (us : List ℕ) × (ms : List Node) × (ns ≡ node (processor n) us ∷ ms)
+Parted (is.Matrix i t) ns = (us : List ℕ) × (ms : List Node) × (ns ≡ node (matrix i t) us ∷ ms)
+Parted (is.Side n) ns = (us : List ℕ) × (ms : List Node) × (ns ≡ node (side n) us ∷ ms)
+Parted is.Other ns = newest ns ≡ other
+
+parted-as : (f : Form) (us : List ℕ) (ms : List Node) → Parted (newestKept (newestAs f us ms)) (node f us ∷ ms)
+parted-as (processor n) us ms = (us, ms, refl)
+parted-as cache us ms = refl
+parted-as memory us ms = refl
+parted-as acpi us ms = refl
+parted-as pci us ms = refl
+parted-as rintc us ms = refl
+parted-as domain us ms = refl
+parted-as (matrix i t) us ms = (us, ms, refl)
+parted-as (side n) us ms = (us, ms, refl)
+
+pub parted-all : (ns : List Node) → Parted (newestKept (newest ns)) ns
+parted-all [] = refl
+parted-all (n ∷ ns) = parted-as (n .form) (n .values) ns
+
+pub parted : (t : Table) (ns : List Node) (s : State) (w : kept.Newest) → s ≡ stateOf t ns → s .newest ≡ w → Parted w ns
+parted t ns s w e h =
+    let k : newestKept (newest ns) ≡ w = sym (ap (λ (s : State). s .newest) e) ∙ h in
+    rw k at (parted-all ns)
+
+-- a record that has nothing to join: the tags are those of the other variants
+module _ (t : Table) (ns : List Node) (s : State) (e : s ≡ stateOf t ns) where
+  pub stray-resource : (vs : List ℕ) → OneOf (1 ∷ 2 ∷ 3 ∷ []) (tagOf the-type (s .newest)) → resource vs (newest ns) ≡ stray
+  unfolding resource
+  stray-resource vs h = go (newest ns) (rw e at h)
+    where
+      go : (x : Newest) → OneOf (1 ∷ 2 ∷ 3 ∷ []) (tagOf the-type (newestKept x)) → resource vs x ≡ stray
+      go (aProcessor n us ms) h = absurd (miss (1 ∷ 2 ∷ 3 ∷ []) 0 tt h)
+      go (aMatrix i j us ms) h = refl
+      go (aSide n us ms) h = refl
+      go other h = refl
+
+  pub stray-setting : (tests : ℕ → ℕ → List Bool) (field : ℕ → ℕ → ℕ) (v : ℕ) → OneOf (0 ∷ 2 ∷ 3 ∷ []) (tagOf the-type (s .newest)) → setting tests field v (newest ns) ≡ stray
+  unfolding setting
+  stray-setting tests field v h = go (newest ns) (rw e at h)
+    where
+      go : (x : Newest) → OneOf (0 ∷ 2 ∷ 3 ∷ []) (tagOf the-type (newestKept x)) → setting tests field v x ≡ stray
+      go (aProcessor n us ms) h = refl
+      go (aMatrix i j us ms) h = absurd (miss (0 ∷ 2 ∷ 3 ∷ []) 1 tt h)
+      go (aSide n us ms) h = refl
+      go other h = refl
+
+  pub stray-handle : (vs : List ℕ) → OneOf (0 ∷ 1 ∷ 3 ∷ []) (tagOf the-type (s .newest)) → handle vs (newest ns) ≡ stray
+  unfolding handle
+  stray-handle vs h = go (newest ns) (rw e at h)
+    where
+      go : (x : Newest) → OneOf (0 ∷ 1 ∷ 3 ∷ []) (tagOf the-type (newestKept x)) → handle vs x ≡ stray
+      go (aProcessor n us ms) h = refl
+      go (aMatrix i j us ms) h = refl
+      go (aSide n us ms) h = absurd (miss (0 ∷ 1 ∷ 3 ∷ []) 2 tt h)
+      go other h = refl
+
+-- ---- records that join it
+
+module _ (t : Table) (s : State) (p : ℕ) (bs : List ℕ) where
+  module _ (n : ℕ) (r : List ℕ) where
+    -- the answer to a resource behind a processor with n of them
+    abbrev withResource : Answer State
+    withResource =
+        pick (not (names (nodeTypes (meant (s .table)) r) (s .nodes) (value (part bs 0 4)) 1)) (refused 6 p)
+        (pick (leb 58 n) (refused 7 p) (stepped p (grown s (s .nodes) 4 (is.Processor (n + 1)))))
+
+    resource-at : (us : List ℕ) (ms : List Node) → s ≡ stateOf t (node (processor n) us ∷ ms) → Begins r t (node (processor n) us ∷ ms)
+        → turn t (node (processor n) us ∷ ms) Resource bs p ≡ withResource
+    unfolding step resource sizes
+    resource-at us ms e b =
+        let ns : List Node = node (processor n) us ∷ ms in
+        let more : List Node = node (processor (suc n)) (us ++ fields (body Resource) bs) ∷ ms in
+        turn-judged t ns Resource bs p
+        ∙ rw (
+          resource-refs (atOrdinal (starts t ms)) bs,
+          names-joined r t (node (processor n) us) ms s e b (value (part bs 0 4)) 1,
+          grown-turn t ns more p s (s .nodes) 4 (is.Processor (n + 1)) e (rw e refl) (omega arith) (ap is.Processor (add-one n)),
+        )
+
+    pub resource-turn : (ns : List Node) → s ≡ stateOf t ns → s .newest ≡ is.Processor n → Begins r t ns → turn t ns Resource bs p ≡ withResource
+    resource-turn ns e h b = let (us, ms, q) = parted t ns s (is.Processor n) e h in rw q (resource-at us ms (rw q at e) (rw q at b))
+
+  module _ (n : ℕ) where
+    -- the answer to a handle behind a side cache with n of them
+    abbrev withHandle : Answer State
+    withHandle = pick (leb 65535 n) (refused 7 p) (stepped p (grown s (s .nodes) 2 (is.Side (n + 1))))
+
+    handle-at : (us : List ℕ) (ms : List Node) → s ≡ stateOf t (node (side n) us ∷ ms) → turn t (node (side n) us ∷ ms) Handle bs p ≡ withHandle
+    unfolding body step refsGood handle sizes
+    handle-at us ms e =
+        let ns : List Node = node (side n) us ∷ ms in
+        let more : List Node = node (side (suc n)) (us ++ fields (body Handle) bs) ∷ ms in
+        turn-judged t ns Handle bs p ∙ rw (grown-turn t ns more p s (s .nodes) 2 (is.Side (n + 1)) e (rw e refl) (omega arith) (ap is.Side (add-one n)))
+
+    pub handle-turn : (ns : List Node) → s ≡ stateOf t ns → s .newest ≡ is.Side n → turn t ns Handle bs p ≡ withHandle
+    handle-turn ns e h = let (us, ms, q) = parted t ns s (is.Side n) e h in rw q (handle-at us ms (rw q at e))
+
+  -- a setting of a kind k behind an i by j matrix
+  module _ (i j : ℕ) (k : Kind) (tests : ℕ → ℕ → List Bool) (field : ℕ → ℕ → ℕ) (v : ℕ) (small : Sound s)
+      (same : (ns : List Node) → step k (fields (body k) bs) ns ≡ setting tests field v (newest ns))
+      (free : (ok : ℕ → ℕ → Bool) (vs : List ℕ) → refsGood ok (body k) vs ≡ true) where
+    set-at : (us : List ℕ) (ms : List Node) → s ≡ stateOf t (node (matrix i j) us ∷ ms) → turn t (node (matrix i j) us ∷ ms) k bs p ≡ pick (not (all (tests i j))) (refused 5 p) (given s)
+    unfolding setting sizes
+    set-at us ms e =
+        let ns : List Node = node (matrix i j) us ∷ ms in
+        let l : front t + (sizes ms + size (matrix i j)) ≤ limit = rw e at (small .short) in
+        turn-judged t ns k bs p ∙ ap (judged t k (fields (body k) bs) p) (same ns) ∙ rw (free, le-ltb limit _ l, e)
+
+    pub set-turn : (ns : List Node) → s ≡ stateOf t ns → s .newest ≡ is.Matrix i j → turn t ns k bs p ≡ pick (not (all (tests i j))) (refused 5 p) (given s)
+    set-turn ns e h = let (us, ms, q) = parted t ns s (is.Matrix i j) e h in rw q (set-at us ms (rw q at e))

@@ -1,0 +1,46 @@
+-- `cell` meets its contract: behind a matrix, indices below I and T.
+use mathlib.Core.Path.{refl, sym, _∙_}
+use borrow.Author.Needs.{needs}
+use borrow.Author.Tests.{le-ltb, lt-ltb}
+use Rattle.format.specs.Layout.{asIs, refsGood}
+use Rattle.format.specs.Kind.{Cell, body}
+use Rattle.format.specs.Recipe.{step}
+use Rattle.laws.proofs.Offsets.{fields-at}
+use Rattle.recipe.proofs.Steps.{turn-judged, stray-setting, set-turn}
+use Rattle.recipe.proofs.cell.Statement.{statement}
+use Rattle.recipe.proofs.cell.Tie as tie
+
+returns : tie.Need-returns
+unfolding step
+returns c t ns p e =
+    let a = c .before .before .args in
+    sym (turn-judged t ns Cell (a .bytes .now) p ∙ rw (stray-setting t ns (a .st) e _ _ _ (c .match .keys2)))
+
+returns-2 : tie.Need-returns-2
+unfolding body step refsGood
+returns-2 c t ns p e =
+    let n = c .before .before .before in
+    let s = n .before .before .before in
+    let bs = s .args .bytes .now in
+    sym (set-turn t (s .args .st) p bs _ _ Cell _ _ _ (s .pre) (λ ms. refl) (λ ok vs. refl) ns e (n .newest .given .1) ∙ rw (fields-at asIs (body Cell) bs 0, ← c .before .get-u8 .ensures, le-ltb _ _ (c .if1 .taken)))
+
+returns-3 : tie.Need-returns-3
+unfolding body step refsGood
+returns-3 c t ns p e =
+    let d = c .before .before in
+    let n = d .before .before .before in
+    let s = n .before .before .before in
+    let bs = s .args .bytes .now in
+    sym (set-turn t (s .args .st) p bs _ _ Cell _ _ _ (s .pre) (λ ms. refl) (λ ok vs. refl) ns e (n .newest .given .1) ∙ rw (fields-at asIs (body Cell) bs 0, ← d .before .get-u8 .ensures, lt-ltb _ _ (d .if1 .left), ← c .before .get-u82 .ensures, le-ltb _ _ (c .if2 .taken)))
+
+returns-4 : tie.Need-returns-4
+unfolding body step refsGood
+returns-4 c t ns p e =
+    let d = c .before .before in
+    let n = d .before .before .before in
+    let s = n .before .before .before in
+    let bs = s .args .bytes .now in
+    sym (set-turn t (s .args .st) p bs _ _ Cell _ _ _ (s .pre) (λ ms. refl) (λ ok vs. refl) ns e (n .newest .given .1) ∙ rw (fields-at asIs (body Cell) bs 0, ← d .before .get-u8 .ensures, lt-ltb _ _ (d .if1 .left), ← c .before .get-u82 .ensures, lt-ltb _ _ (c .if2 .left)))
+
+pub cell-spec : {M : Type 1} → statement M
+cell-spec = tie.close (tie.spec (λ c. search needs) returns (λ c κs. search needs) returns-2 (λ c κs. search needs) returns-3 returns-4)

@@ -1,0 +1,51 @@
+-- `judge` meets its contract: each kind by the function that is its own.
+use borrow.Author.Needs.{needs}
+use Rattle.recipe.proofs.judge.Statement.{statement}
+use Rattle.recipe.proofs.judge.Tie as tie
+
+pub judge-spec : {M : Type 1} → statement M
+judge-spec =
+    tie.close
+    (tie.spec
+    (λ c. search needs)
+    (λ c κs. search needs)
+    (λ c. search needs)
+    (λ c κs. search needs)
+    (λ c. search needs)
+    (λ c κs. search needs)
+    (λ c. search needs)
+    (λ c κs. search needs)
+    (λ c. search needs)
+    (λ c κs. search needs)
+    (λ c. search needs)
+    (λ c κs. search needs)
+    (λ c. search needs)
+    (λ c κs. search needs)
+    (λ c. search needs)
+    (λ c κs. search needs)
+    (λ c. search needs)
+    (λ c κs. search needs)
+    (λ c. search needs)
+    (λ c κs. search needs)
+    (λ c. search needs)
+    (λ c κs. search needs)
+    (λ c. search needs)
+    (λ c κs. search needs)
+    (λ c. search needs)
+    (λ c κs. search needs)
+    (λ c. search needs)
+    (λ c κs. search needs)
+    (λ c. rw (c .before .enum-told .given .1) (c .processor .ensures))
+    (λ c. rw (c .before .enum-told2 .given .1) (c .resource .ensures))
+    (λ c. rw (c .before .enum-told3 .given .1) (c .cache .ensures))
+    (λ c t ns p e b. rw (c .before .enum-told4 .given .1) (c .memory .ensures t ns p e))
+    (λ c t ns p e b. rw (c .before .enum-told5 .given .1) (c .acpi .ensures t ns p e))
+    (λ c t ns p e b. rw (c .before .enum-told6 .given .1) (c .pci .ensures t ns p e))
+    (λ c t ns p e b. rw (c .before .enum-told7 .given .1) (c .rintc .ensures t ns p e))
+    (λ c t ns p e b. rw (c .before .enum-told8 .given .1) (c .domain .ensures t ns p e))
+    (λ c t ns p e b. rw (c .before .enum-told9 .given .1) (c .matrix .ensures t ns p e))
+    (λ c t ns p e b. rw (c .before .enum-told10 .given .1) (c .initiator .ensures t ns p e))
+    (λ c t ns p e b. rw (c .before .enum-told11 .given .1) (c .target .ensures t ns p e))
+    (λ c t ns p e b. rw (c .before .enum-told12 .given .1) (c .cell .ensures t ns p e))
+    (λ c t ns p e b. rw (c .before .enum-told13 .given .1) (c .side .ensures t ns p e))
+    (λ c t ns p e b. rw (c .before .enum-told14 .given .1) (c .handle .ensures t ns p e)))
