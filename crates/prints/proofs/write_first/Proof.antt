@@ -1,15 +1,15 @@
--- `buildtab::write_first` is safe: the part that it lends has n bytes, by the test before it.
+-- `prints::write_first` is safe: the part that it lends has n bytes, by the test before it.
 use mathlib.Core.Path.{sym}
 use borrow.Author.Needs.{needs}
 use native.Mathlib.Omega.{arith}
 use lib.Seq.{length-take-le}
-use Rattle.buildtab.proofs.write_first.Statement.{statement}
-use Rattle.buildtab.proofs.write_first.Tie as tie
+use Rattle.prints.proofs.write_first.Statement.{statement}
+use Rattle.prints.proofs.write_first.Tie as tie
 
 slice-aggregate-write-all : tie.Need-slice-aggregate-write-all
 slice-aggregate-write-all c =
     let a = c .before .before .before .args in
-    sym (length-take-le (a .n) (a .table .now) (omega arith))
+    sym (length-take-le (a .n) (a .bytes .now) (omega arith))
 
 write-all-requires : tie.Need-write-all-requires
 write-all-requires c κs = search needs

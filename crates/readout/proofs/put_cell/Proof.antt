@@ -1,0 +1,31 @@
+-- `put_cell` meets its contract: by the test; the numbers that it writes are those of the call.
+use borrow.Author.Needs.{needs}
+use borrow.Author.Tests.{eq-eqb, ne-eqb}
+use native.Mathlib.Omega.{arith}
+use mathlib.Core.Path.{refl}
+use Rattle.format.specs.Layout.{width}
+use Rattle.format.specs.Kind.{Cell, body}
+use Rattle.readout.proofs.Lists.{none-laid, call-laid}
+use Rattle.readout.proofs.put_cell.Statement.{statement}
+use Rattle.readout.proofs.put_cell.Tie as tie
+
+returns : tie.Need-returns
+returns c = (rw (eq-eqb _ _ (c .if1 .taken)) (none-laid _ _), omega arith)
+
+returns-2 : tie.Need-returns-2
+unfolding body width
+returns-2 c =
+    let s = c .before .before .before .before .before .before in
+    (rw (ne-eqb _ _ (s .if1 .left)) (call-laid Cell _ _ _ _ _ (c .before .before .put-all .ensures) refl), omega arith)
+
+pub put-cell-spec : {M : Type 1} → statement M
+put-cell-spec =
+    tie.close
+    (tie.spec
+    returns
+    (λ c. search needs)
+    (λ c. search needs)
+    (λ c κs. search needs)
+    (λ c. search needs)
+    (λ c. search needs)
+    returns-2)

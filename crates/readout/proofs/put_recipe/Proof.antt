@@ -1,0 +1,49 @@
+-- `put_recipe` meets its contract: by the room; head and calls lie one behind the other.
+use mathlib.Core.Path.{refl}
+use borrow.Author.Needs.{needs}
+use borrow.Author.Tests.{lt-ltb, le-ltb}
+use Rattle.format.specs.Bytes.{part}
+use Rattle.format.specs.Build.{written}
+use Rattle.header.specs.Header.{meant}
+use Rattle.laws.proofs.Bytes.{value-byte}
+use Rattle.readout.proofs.Recipes.{recipe-laid}
+use Rattle.readout.proofs.put_recipe.Statement.{statement}
+use Rattle.readout.proofs.put_recipe.Tie as tie
+
+returns : tie.Need-returns
+unfolding written
+returns c = rw (lt-ltb _ _ (c .if1 .taken)) (refl, refl)
+
+put-records-requires : tie.Need-put-records-requires
+put-records-requires c κs = rw (c .before .own .ensures) (c .before .before .before .before .before .before .before .before .before .before .before .before .before .before .before .before .before .before .pre .1)
+
+returns-2 : tie.Need-returns-2
+unfolding written part
+returns-2 c =
+    let v = c .before .before in
+    let w = v .before .before .before .before .before .before in
+    let u = w .before .before .before .before .before in
+    let s = u .before .before .before .before .before .before .before .before in
+    let b = s .args .table .now in
+    let h = rw (u .before .before .code .ensures) at (u .put-all .ensures) in
+    let r = rw (v .before .before .before .get-u8 .ensures, ← value-byte b 8, v .before .before .own .ensures) at (v .put-records .ensures .1) in
+    rw (le-ltb _ _ (u .before .before .before .before .before .if1 .left)) (refl, recipe-laid (meant (s .args .t)) b _ _ _ _ (s .pre .0) h (w .copy .ensures) r)
+
+pub put-recipe-spec : {M : Type 1} → statement M
+put-recipe-spec =
+    tie.close
+    (tie.spec
+    returns
+    (λ c. search needs)
+    (λ c κs. search needs)
+    (λ c. search needs)
+    (λ c κs. search needs)
+    (λ c. search needs)
+    (λ c. search needs)
+    (λ c. search needs)
+    (λ c κs. search needs)
+    (λ c κs. search needs)
+    (λ c κs. search needs)
+    put-records-requires
+    (λ c. search needs)
+    returns-2)
