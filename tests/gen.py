@@ -1,0 +1,601 @@
+"""Seeded generators of recipes and tables, good and damaged."""
+import random
+from model import *
+
+KINDS = {0: (16, 17, 18), 1: (32, 33, 34, 35), 2: (48, 49, 50, 51, 52, 53, 54)}
+
+
+def num(R, k):
+    """a number of k bytes, edges often"""
+    m = 256 ** k - 1
+    c = R.random()
+    if c < .25:
+        return 0
+    if c < .35:
+        return m
+    if c < .55:
+        return R.randrange(min(m, 8) + 1)
+    if c < .65:
+        return 1 << R.randrange(8 * k)
+    return R.randrange(m + 1)
+
+
+def head(R, t):
+    c = R.random()
+    rest = bytes(26) if c < .3 else bytes(R.randrange(256) for _ in range(26))
+    return bytes([1, t]) + rest
+
+
+def g_proc(R, ref):
+    return bytes([16]) + by(num(R, 4), 4) + by(ref, 4) + by(num(R, 4), 4)
+
+
+def g_res(R, ref):
+    return bytes([17]) + by(ref, 4)
+
+
+def g_cache(R, ref):
+    flags = R.choice([0, 255, R.randrange(256), R.randrange(256), 1 << R.randrange(8), 255 ^ (1 << R.randrange(8))])
+    v = [num(R, 4), num(R, 4), num(R, 1), R.randrange(3), R.randrange(3), R.randrange(2), num(R, 2), num(R, 4)]
+    v = [x if flags >> i & 1 else 0 for i, x in enumerate(v)]
+    return (bytes([18, flags]) + by(ref, 4) + by(v[0], 4) + by(v[1], 4) + bytes([v[2], v[3] | v[4] << 2 | v[5] << 4])
+            + by(v[6], 2) + by(v[7], 4))
+
+
+def g_srat(R, k):
+    if k == 32:
+        return bytes([32]) + by(num(R, 4), 4) + by(num(R, 8), 8) + by(num(R, 8), 8) + bytes([R.randrange(8)])
+    if k == 33:
+        return bytes([33]) + by(num(R, 4), 4) + by(num(R, 8), 8) + by(num(R, 4), 4) + bytes([R.randrange(4)])
+    if k == 34:
+        return (bytes([34]) + by(num(R, 4), 4) + by(num(R, 2), 2)
+                + bytes([R.randrange(256), R.choice([0, 31, R.randrange(32)]), R.choice([0, 7, R.randrange(8)]), R.randrange(4)]))
+    return bytes([35]) + by(num(R, 4), 4) + bytes([R.randrange(2)]) + by(num(R, 4), 4)
+
+
+def g_matrix(R, I, T):
+    return (bytes([49, R.randrange(256) & 0x33, R.randrange(6), R.randrange(12)]) + by(num(R, 8), 8) + bytes([I, T]))
+
+
+def g_setting(R, I, T):
+    opts = []
+    if I:
+        opts.append(50)
+    if T:
+        opts.append(51)
+    if I and T:
+        opts += [52, 52, 52]
+    if not opts:
+        return None
+    k = R.choice(opts)
+    if k == 50:
+        return bytes([50, R.randrange(I)]) + by(num(R, 4), 4)
+    if k == 51:
+        return bytes([51, R.randrange(T)]) + by(num(R, 4), 4)
+    v = R.choice([0xFFFF, 0, 0xFF, 0xFF00, R.randrange(65536), R.randrange(65536)])
+    return bytes([52, R.randrange(I), R.randrange(T)]) + by(v, 2)
+
+
+def g_side(R):
+    a = R.randrange(4) | R.randrange(4) << 4 | R.randrange(3) << 8 | R.randrange(3) << 12 | num(R, 2) << 16
+    return bytes([53]) + by(num(R, 4), 4) + by(num(R, 8), 8) + by(a, 4)
+
+
+def good_records(R, t, size):
+    """a list of records (after the head), all good; about `size` nodes"""
+    out = []
+    if t == 0:
+        kinds = []
+        while len(kinds) < size:
+            own = len(kinds) + 1
+            procs = [i + 1 for i, k in enumerate(kinds) if k == 16]
+            caches = [i + 1 for i, k in enumerate(kinds) if k == 18]
+            if R.random() < .5:
+                out.append(g_cache(R, R.choice([0] + caches[-3:] + caches[:2])))
+                kinds.append(18)
+            else:
+                out.append(g_proc(R, R.choice([0] + procs[-3:] + procs[:2])))
+                if caches:
+                    for _ in range(R.choice([0, 0, 1, 1, 2, 3, 5])):
+                        out.append(g_res(R, R.choice(caches)))
+                kinds.append(16)
+    elif t == 1:
+        for _ in range(size):
+            out.append(g_srat(R, R.choice(KINDS[1])))
+    else:
+        for _ in range(size):
+            k = R.choice([48, 49, 49, 53])
+            if k == 48:
+                out.append(bytes([48]) + by(num(R, 4), 4) + by(num(R, 4), 4))
+            elif k == 49:
+                I, T = R.choice([0, 1, 2, 3, 4, 5]), R.choice([0, 1, 2, 3, 4, 5])
+                if R.random() < .05:
+                    I, T = R.choice([(0, 7), (9, 0), (12, 1), (1, 12)])
+                out.append(g_matrix(R, I, T))
+                last = None
+                for _ in range(R.choice([0, 0, 1, 2, 4, 8])):
+                    s = g_setting(R, I, T)
+                    if s is None:
+                        break
+                    if last is not None and R.random() < .25:   # one place set again
+                        s = last[:2 if last[0] != 52 else 3] + s[-(4 if last[0] != 52 else 2):].rjust(4 if last[0] != 52 else 2, b'\0')
+                        if R.random() < .3:
+                            s = s[:2] + bytes(4) if s[0] != 52 else s[:3] + b'\xff\xff'
+                    out.append(s)
+                    last = s
+            else:
+                out.append(g_side(R))
+                for _ in range(R.choice([0, 0, 1, 2, 3, 6])):
+                    out.append(bytes([54]) + by(num(R, 2), 2))
+    return out
+
+
+def node_size(R):
+    return R.choice([0, 1, 1, 2, 2, 3, 3, 4, 5, 6, 8])
+
+
+def good_recipe(R, t=None, size=None):
+    t = R.randrange(3) if t is None else t
+    return head(R, t) + b''.join(good_records(R, t, node_size(R) if size is None else size))
+
+
+def rand_record(R, t):
+    """one record of table t, by itself, fields good if they can be"""
+    k = R.choice(KINDS[t])
+    if k == 16:
+        return g_proc(R, R.choice([0, 1, 2, 3]))
+    if k == 17:
+        return g_res(R, R.choice([0, 1, 2, 3]))
+    if k == 18:
+        return g_cache(R, R.choice([0, 0, 1, 2]))
+    if t == 1:
+        return g_srat(R, k)
+    if k == 48:
+        return bytes([48]) + by(num(R, 4), 4) + by(num(R, 4), 4)
+    if k == 49:
+        return g_matrix(R, R.randrange(4), R.randrange(4))
+    if k in (50, 51):
+        return bytes([k, R.randrange(3)]) + by(num(R, 4), 4)
+    if k == 52:
+        return bytes([52, R.randrange(3), R.randrange(3)]) + by(num(R, 2), 2)
+    if k == 53:
+        return g_side(R)
+    return bytes([54]) + by(num(R, 2), 2)
+
+
+def spoil_field(R, rec):
+    """a record with a field outside its rules, if the kind has one"""
+    b = bytearray(rec)
+    k = b[0]
+    if k == 18:
+        c = R.randrange(4)
+        if c == 0:
+            b[1] = 255
+            b[15] = R.choice([3, 12, 15, 32, 64, 128, 0x0B, 0x23])
+        elif c == 1:      # a bit off, the part not 0
+            i = R.randrange(8)
+            b[1] &= 255 ^ (1 << i)
+            at = {0: 6, 1: 10, 2: 14, 6: 16, 7: 18}
+            if i in at:
+                w = {0: 4, 1: 4, 2: 1, 6: 2, 7: 4}[i]
+                b[at[i] + R.randrange(w)] = R.choice([1, 128, 255])
+            else:
+                b[15] = {3: R.choice([1, 2]), 4: R.choice([4, 8]), 5: 16}[i]
+        elif c == 2:
+            b[1] = 0
+            b[6 + R.randrange(16)] = R.choice([1, 255])
+        else:
+            b[15] = R.randrange(256)
+    elif k == 32:
+        b[-1] = R.choice([8, 9, 16, 255, 128])
+    elif k == 33:
+        b[-1] = R.choice([4, 5, 8, 255])
+    elif k == 34:
+        c = R.randrange(3)
+        if c == 0:
+            b[8] = R.choice([32, 33, 255])
+        elif c == 1:
+            b[9] = R.choice([8, 9, 255])
+        else:
+            b[10] = R.choice([4, 7, 255])
+    elif k == 35:
+        b[5] = R.choice([2, 3, 128, 255])
+    elif k == 49:
+        c = R.randrange(3)
+        if c == 0:
+            b[1] = R.choice([4, 8, 12, 64, 128, 255, R.randrange(256)])
+        elif c == 1:
+            b[2] = R.choice([6, 7, 255])
+        else:
+            b[3] = R.choice([12, 13, 255])
+    elif k in (50, 51):
+        b[1] = R.choice([b[1] + 1 & 255, b[1] + 2 & 255, 255, 6, 5, 4])
+    elif k == 52:
+        i = R.choice([1, 2])
+        b[i] = R.choice([b[i] + 1 & 255, b[i] + 2 & 255, 255, 6, 5, 4])
+    elif k == 53:
+        i = R.choice([13, 13, 14, 14])
+        b[i] = (R.choice([4, 0x40, 15, 0xF0, 8, 0x80]) if i == 13 else R.choice([3, 0x30, 15, 0xF0, 8, 0x80, 0x33]))
+    return bytes(b)
+
+
+def spoil_ref(R, rec, own):
+    b = bytearray(rec)
+    at = {16: 5, 17: 1, 18: 2}.get(b[0])
+    if at is None:
+        return rec
+    v = R.choice([own, own + 1, own - 1, max(own - 2, 0), 0, 1, 2, 3, own + 256, 256, 1 << 24, 0xFFFFFFFF, 65536 + 1])
+    b[at:at + 4] = by(v & 0xFFFFFFFF, 4)
+    return bytes(b)
+
+
+def ordinals(recs):
+    out, c = [], 0
+    for r in recs:
+        if r and r[0] in (16, 18):
+            c += 1
+        out.append(c)
+    return out
+
+
+def damage_recipe(R, t, h, recs):
+    """one damage on the head and the list of records; gives (h, recs) or bytes"""
+    recs = list(recs)
+    c = R.randrange(19)
+    i = R.randrange(len(recs)) if recs else 0
+    if c == 0:      # any byte of a record
+        if recs:
+            b = bytearray(recs[i])
+            b[R.randrange(len(b))] = R.choice([0, 255, 1, R.randrange(256)])
+            recs[i] = bytes(b)
+    elif c == 1:    # cut
+        whole = h + b''.join(recs)
+        return whole[:R.choice([R.randrange(len(whole) + 1), max(len(whole) - R.randrange(1, 6), 0), R.randrange(28, len(whole) + 1)])]
+    elif c == 2:    # a kind of another table
+        recs.insert(R.randrange(len(recs) + 1), rand_record(R, R.choice([x for x in (0, 1, 2) if x != t])))
+    elif c == 3:    # unknown kinds, the edges of the ranges
+        k = R.choice([0, 2, 15, 19, 20, 31, 36, 47, 55, 56, 64, 80, 96, 255, 128 + 16, R.randrange(256)])
+        recs.insert(R.randrange(len(recs) + 1), bytes([k]) + bytes(R.randrange(0, 24)))
+    elif c == 4:    # second head, whole or cut
+        recs.insert(R.randrange(len(recs) + 1), head(R, R.randrange(4))[:R.choice([28, 28, 1, 5])])
+    elif c in (5, 6):   # misplaced joined record
+        joined = {0: [17], 1: [], 2: [50, 51, 52, 54]}[t]
+        if joined:
+            k = R.choice(joined)
+            r = {17: bytes([17]) + by(R.choice([0, 1, 2]), 4), 50: bytes([50, 0]) + by(num(R, 4), 4),
+                 51: bytes([51, 0]) + by(num(R, 4), 4), 52: bytes([52, 0, 0]) + by(num(R, 2), 2),
+                 54: bytes([54]) + by(num(R, 2), 2)}[k]
+            recs.insert(R.randrange(len(recs) + 1), r)
+        elif len(recs) > 1:
+            j = R.randrange(len(recs))
+            recs[i], recs[j] = recs[j], recs[i]
+    elif c in (7, 8, 9):   # a field
+        if recs:
+            recs[i] = spoil_field(R, recs[i])
+    elif c in (10, 11, 12):  # a reference
+        if recs:
+            withref = [j for j, r in enumerate(recs) if r and r[0] in (16, 17, 18)]
+            if withref:
+                i = R.choice(withref)
+            recs[i] = spoil_ref(R, recs[i], ordinals(recs)[i])
+    elif c == 13:   # table code, or the first byte
+        b = bytearray(h)
+        if R.random() < .6:
+            b[1] = R.choice([3, 4, 255, 128, (t + 1) % 3])
+        else:
+            b[0] = R.choice([0, 2, 16, 17, 48, 255, 32])
+        h = bytes(b)
+    elif c == 14 and len(recs) > 1:   # swap
+        j = R.randrange(len(recs))
+        recs[i], recs[j] = recs[j], recs[i]
+    elif c == 15 and recs:            # drop one
+        del recs[i]
+    elif c == 16 and recs:            # once more
+        recs.insert(i, recs[i])
+    elif c == 17:
+        return h[:R.randrange(29)]
+    else:
+        whole = bytearray(h + b''.join(recs))
+        for _ in range(R.choice([1, 1, 2, 3])):
+            whole[R.randrange(len(whole))] = R.randrange(256)
+        return bytes(whole)
+    return h, recs
+
+
+def full_recipe(R, n):
+    """n resources on one processor, perhaps with things before and after"""
+    r = head(R, 0) + g_cache(R, 0) + (g_cache(R, 1) if R.random() < .5 else b'')
+    r += g_proc(R, 0)
+    for j in range(n):
+        r += g_res(R, 1)
+    if R.random() < .4:
+        r += R.choice([g_proc(R, 0), g_cache(R, 1), g_res(R, 0), g_res(R, 9), b'\x11\x01', g_res(R, 1)])
+    return r
+
+
+def long_recipe(R):
+    """lengths about the limit, with few records"""
+    r = head(R, 2)
+    total = 40
+    while True:
+        left = LIMIT - total
+        if left > 140000:
+            I, T = (255, 255) if R.random() < .6 else (R.randrange(200, 256), R.randrange(200, 256))
+            rec, n = g_matrix(R, I, T), 32 + 4 * I + 4 * T + 2 * I * T
+        else:
+            break
+        r += rec
+        total += n
+    # now close to the limit: want = left + delta by one matrix with T = 1 .. and sides
+    want = LIMIT - total + R.choice([0, 0, 2, -2, 4, 40, -40, 1000])
+    best = None
+    for extra in (0, 40, 80, 120, 32, 34, 36, 38, 72, 74, 76, 78):
+        for I in range(1, 256):
+            # 32 + 4I + 4T + 2IT = want - extra  ->  T (4 + 2I) = want - extra - 32 - 4I
+            x = want - extra - 32 - 4 * I
+            if x >= 0 and x % (4 + 2 * I) == 0 and x // (4 + 2 * I) <= 255:
+                best = (I, x // (4 + 2 * I), extra)
+                break
+        if best:
+            break
+    if best is None:
+        return r + g_matrix(R, 255, 255)
+    I, T, extra = best
+    recs = []
+    rest = extra
+    while rest >= 72 or rest == 40:
+        recs.append(bytes([48]) + bytes(8))
+        rest -= 40
+    if rest >= 32:
+        recs.append(g_side(R) + b''.join(bytes([54]) + by(num(R, 2), 2) for _ in range((rest - 32) // 2)))
+    recs.append(g_matrix(R, I, T))
+    R.shuffle(recs)
+    r += b''.join(recs)
+    r += R.choice([b'', b'', bytes([50, 0]) + by(7, 4), bytes([54]) + by(3, 2), g_side(R), bytes([48]) + bytes(8), b'\x30', bytes([49, 4]) + bytes(12)])
+    return r
+
+
+def recipe(R):
+    c = R.random()
+    if c < .01:
+        return R.choice([b'', b'\x01', bytes([R.randrange(256)]), b'\x01\x03', bytes(28), bytes([1, 3]) + bytes(26)])
+    if c < .03:
+        return full_recipe(R, R.choice([57, 58, 58, 59, 59, 60]))
+    if c < .05:
+        return long_recipe(R)
+    t = R.choice([0, 0, 1, 2, 2])
+    h, recs = head(R, t), good_records(R, t, node_size(R))
+    if c < .40:
+        return h + b''.join(recs)
+    for _ in range(R.choice([1, 1, 1, 2, 3])):
+        x = damage_recipe(R, t, h, recs)
+        if isinstance(x, bytes):
+            return x
+        h, recs = x
+    return h + b''.join(recs)
+
+
+# ---------------------------------------------------------------- tables
+
+def frames(tab):
+    """places of the records of a good table (by its own frames), with lengths"""
+    t = NAMES.index(tab[:4])
+    p, out = FRONT[t], []
+    n = le(tab[4:8])
+    while p < min(n, len(tab) - 8):
+        s = le(tab[p + 4:p + 8]) if t == 2 else tab[p + 1]
+        if s < (8 if t == 2 else 2) or p + s > len(tab):
+            break
+        out.append((p, s))
+        p += s
+    return t, out
+
+
+def set_length(tab):
+    b = bytearray(tab)
+    if len(b) >= 8:
+        b[4:8] = by(len(b), 4)
+    return bytes(b)
+
+
+def odd_record(R, t):
+    """a record of an unknown type or length"""
+    if t == 2:
+        typ = R.choice([0, 1, 2, 3, 4, 255, 256, 257, 258, 65535])
+        n = R.choice([8, 9, 12, 20, 31, 32, 33, 36, 39, 40, 41, 44])
+        body = bytearray(bytes(R.choice([0, 0, 0, R.randrange(256)]) for _ in range(n - 8)))
+        if typ == 1 and n >= 20 and R.random() < .6:
+            body[4:8] = by(R.choice([256, 0, 1, 255, 65536, 1 << 24]), 4)
+            body[8:12] = by(R.choice([256, 0, 1, 255, 65536, 1 << 31]), 4)
+        return by(typ, 2) + by(R.choice([0, 0, 0, 1, 256]), 2) + by(n, 4) + bytes(body)
+    typ = R.choice([0, 0, 1, 1, 2, 3, 5, 7, 255, R.randrange(256)])
+    n = R.choice([2, 3, 4, 8, 16, 17, 18, 19, 20, 21, 22, 24, 27, 28, 29, 32, 33, 40, 44, R.randrange(2, 60)])
+    return bytes([typ, n]) + bytes(R.choice([0, 0, 0, R.randrange(256)]) for _ in range(n - 2))
+
+
+def matrix_256(R):
+    I, T = R.choice([(256, 0), (0, 256), (256, 1), (255, 0), (0, 255)])
+    vals = bytes(4 * I + 4 * T + 2 * I * T)
+    return (by(1, 2) + bytes(2) + by(32 + len(vals), 4) + bytes([0, 0, 0, 0]) + by(I, 4) + by(T, 4) + bytes(4) + by(5, 8) + vals)
+
+
+ZEROS = {0: [2, 3], 1: [2, 3], 2: [6, 7, 24, 25, 26, 27, 32, 33, 35, 39], 3: [2, 28, 29, 31], 4: [2, 3],
+         5: [2, 3, 10, 11, 20, 21, 30, 39], 6: [2, 3, 11, 20, 21, 23], 7: [2, 3, 12, 15, 28, 29]}
+
+
+def row_here(t, typ, n):
+    return {(0, 0): 0, (0, 1): 1, (1, 1): 2, (1, 5): 3, (1, 7): 4, (2, 0): 5, (2, 1): 6, (2, 2): 7}.get((t, typ))
+
+
+def damage_table(R, tab):
+    """one damage; the sum is not mended here"""
+    b = bytearray(tab)
+    if len(tab) < 48 or tab[:4] not in NAMES:
+        return bytes(b)
+    t, fs = frames(tab)
+    c = R.randrange(24)
+    p, n = R.choice(fs) if fs else (None, None)
+    typ = None if p is None else (le(tab[p:p + 2]) if t == 2 else tab[p])
+    row = None if p is None else row_here(t, typ, n)
+    if c == 0:      # the table's length
+        v = R.choice([len(b) - 1, len(b) + 1, FRONT[t] - 1, FRONT[t], 0, 36, 35, LIMIT, LIMIT + 1, 0xFFFFFFFF, len(b) - 2, len(b) - 4,
+                      R.randrange(len(b) + 40)])
+        b[4:8] = by(max(v, 0), 4)
+    elif c == 1 and p is not None:   # a record's length
+        d = R.choice([-4, -2, -1, 1, 2, 4, 8, -8, 16])
+        v = R.choice([n + d, n + d, 0, 1, 2, 7, 8, 255, n + 256, 252, 256])
+        if t == 2:
+            b[p + 4:p + 8] = by(max(v, 0), 4)
+        else:
+            b[p + 1] = v % 256
+    elif c == 2:     # cut, the length following
+        return set_length(tab[:R.randrange(36, len(tab) + 1)])
+    elif c == 3:     # cut, the length not following
+        return tab[:R.choice([R.randrange(len(tab) + 1), R.randrange(0, 49), 35, 36, len(tab) - 1])]
+    elif c in (4, 5, 6) and t == 0 and fs:   # a reference
+        cands = []
+        for q, m in fs:
+            if m < 20:
+                continue
+            cands.append((q, q + 8))
+            if tab[q] == 0:
+                cands += [(q, q + 20 + 4 * i) for i in range((m - 20) // 4)]
+        if cands:
+            q, at = R.choice(cands)
+            others = [x for x, _ in fs]
+            earlier = [x for x in others if x < q] or [0]
+            v = R.choice([R.choice(others), R.choice(earlier), R.choice(earlier) + R.choice([1, -1, 4]), q, 0, 36, len(tab), 1,
+                          R.choice(earlier) + 256, R.choice(earlier) + (1 << 24), 0xFFFFFFFF])
+            b[at:at + 4] = by(v & 0xFFFFFFFF, 4)
+    elif c in (7,):   # revision
+        b[8] = R.choice([0, 1, 2, 3, 4, 255, R.randrange(256)])
+    elif c in (8, 9) and p is not None:  # counts
+        if row == 0:
+            v = R.choice([0, 1, 2, 58, 59, (n - 20) // 4 + 1, max((n - 20) // 4 - 1, 0), 256, (n - 20) // 4 + 256, (n - 20) // 4 + (1 << 24)])
+            b[p + 16:p + 20] = by(max(v, 0), 4)
+        elif row == 6 and n >= 32:
+            at = R.choice([12, 16])
+            o = le(b[p + at:p + at + 4])
+            v = R.choice([o + 1, max(o - 1, 0), 255, 256, 257, o + 256, o + 65536, o + (1 << 24), 0])
+            b[p + at:p + at + 4] = by(v & 0xFFFFFFFF, 4)
+            if R.random() < .3:
+                b[p + 12:p + 16], b[p + 16:p + 20] = b[p + 16:p + 20], b[p + 12:p + 16]
+        elif row == 7 and n >= 32:
+            o = le(b[p + 30:p + 32])
+            b[p + 30:p + 32] = by(R.choice([(o + 1) & 65535, max(o - 1, 0), (o + 256) & 65535, 0, 65535]), 2)
+    elif c in (10, 11) and p is not None and row is not None:  # zeros
+        z = [x for x in ZEROS[row] if x < n]
+        if row == 3:
+            z += [20, 21, 23] if n > 3 and tab[p + 3] == 0 else [12, 13, 20, 23]
+        z = [x for x in z if x < n]
+        if z:
+            b[p + R.choice(z)] = R.choice([1, 128, 255])
+    elif c in (12, 13, 14) and p is not None and row is not None:   # ranges and bit rules
+        spots = {0: [(1, 1), (16, 4)], 1: [(4, 4), (5, 1), (7, 1), (25 - 4, 1), (12, 4), (16, 4), (20, 1), (21, 1), (22, 2), (24, 4)],
+                 2: [(28, 4), (29, 1), (31, 1)], 3: [(3, 1), (24, 4), (25, 1), (27, 1)], 4: [(8, 4), (9, 1), (11, 1)],
+                 5: [(8, 2), (8, 1), (9, 1)], 6: [(8, 1), (9, 1), (10, 1)], 7: [(24, 4), (24, 1), (25, 1), (26, 1)]}[row]
+        at, w = R.choice(spots)
+        if at + w <= n:
+            b[p + at:p + at + w] = by(R.choice([0, 1, 2, 3, 4, 5, 6, 7, 8, 11, 12, 15, 16, 32, 64, 128, 255, num(R, w)]) & (256 ** w - 1), w)
+    elif c in (15, 16):   # unknown records put in
+        at = R.choice([q for q, _ in fs] + [len(tab)])
+        rec = odd_record(R, t)
+        return set_length(tab[:at] + rec + tab[at:])
+    elif c == 17:    # signature
+        i = R.randrange(4)
+        b[i] = R.choice([b[i] ^ 32, 0, R.randrange(256)])
+        if R.random() < .3:
+            b[:4] = R.choice([b'TTPP', b'FACP', b'PPTU', b'srat', b'SRAS', NAMES[(t + 1) % 3], NAMES[(t + 2) % 3]])
+    elif c == 18:    # trailing bytes
+        return tab + bytes(R.randrange(256) for _ in range(R.choice([1, 2, 7, 40])))
+    elif c == 19 and t:    # front
+        b[R.randrange(36, FRONT[t])] = R.choice([0, 1, 2, 255])
+    elif c == 20 and p is not None:   # any byte of a record
+        b[p + R.randrange(n)] = R.choice([0, 1, 255, R.randrange(256)])
+    elif c == 21:    # rest too short
+        return set_length(tab + bytes(R.randrange(1, 9 if t == 2 else 3)))
+    elif c == 22:    # type
+        if p is not None:
+            b[p] = R.choice([0, 1, 2, 3, 5, 6, 7, 255])
+            if t == 2 and R.random() < .3:
+                b[p + 1] = R.choice([1, 255])
+    elif c == 23:
+        if fs and R.random() < .5:    # two records in the other order
+            q, m = R.choice(fs)
+            return set_length(tab[:q] + tab[q + m:])
+        b[9] = (b[9] + R.choice([1, 128, 255])) % 256
+    return bytes(b)
+
+
+def lent_table(R):
+    """bytes lent to the reader"""
+    c = R.random()
+    if c < .01:
+        return R.choice([b'', b'P', b'PPTT', bytes(35), bytes(36), b'SRAT' + by(36, 4) + bytes(28), b'HMAT' + by(39, 4) + bytes(31)])
+    t = R.choice([0, 0, 1, 2, 2])
+    r = full_recipe(R, R.choice([57, 58])) if t == 0 and R.random() < .01 else good_recipe(R, t)
+    tab = table(r)
+    if not tab:
+        tab = table(good_recipe(R, t))
+    if c < .25:
+        return tab
+    if c < .28 and t == 2:
+        return mend(set_length(tab + matrix_256(R)))
+    for _ in range(R.choice([1, 1, 1, 2, 2, 3])):
+        tab = damage_table(R, tab)
+    if R.random() < .88:
+        tab = mend(tab)
+    if R.random() < .15:
+        tab = tab + bytes(R.randrange(256) for _ in range(R.choice([1, 3, 20])))
+    return tab
+
+
+def mask(R):
+    return R.choice([ALL, ALL, 255, 255, 255, 0, R.randrange(256), R.randrange(256), 1 << R.randrange(8), 255 ^ (1 << R.randrange(8)),
+                     R.randrange(1 << 32), 0xFFFFFF00, (255 ^ (1 << R.randrange(8))) | 0xFFFFFF00])
+
+
+if __name__ == '__main__':
+    from collections import Counter
+    R = random.Random(1)
+    cb, cr, co, places = Counter(), Counter(), Counter(), {}
+    szs = []
+    for i in range(3200):
+        r = recipe(R)
+        a = build(r, 10 ** 7)
+        room = R.choice([a[1] - 1, a[1], a[1] + 5, 0, 10**7]) if a[0] == 'given' else 1000
+        a = build(r, max(room, 0))
+        cb[a[1] if a[0] == 'refused' else 0] += 1
+        if a[0] == 'refused':
+            places.setdefault(a[1], set()).add(a[2])
+        if a[0] == 'given' and a[1] < 100000:
+            t = table(r)
+            assert recipe_of(t) == normal(r), r.hex()
+            assert table(normal(r)) == t
+            assert read_out(t, 10 ** 7)[0] == 'given'
+        szs.append(len(r))
+    print('build', sorted(cb.items()), sum(szs) / len(szs), max(szs))
+    szs = []
+    for i in range(3200):
+        t = lent_table(R)
+        szs.append(len(t))
+        m = mask(R)
+        full = read(t, m, 0)
+        cnt = full[1] if full[0] == 'given' else 0
+        a = read(t, m, R.choice([0, R.randrange(cnt + 1), R.randrange(cnt + 2)]))
+        cr[a[1] if a[0] == 'refused' else 'u' if a[5] is None else 'row%d' % a[5]] += 1
+        if a[0] == 'refused':
+            places.setdefault(a[1], set()).add(a[2])
+        a = read_out(t, 10 ** 7)
+        room = R.choice([a[1] - 1, a[1], a[1] + 5, 0, 10**7]) if a[0] == 'given' else 1000
+        a = read_out(t, room)
+        co[a[1] if a[0] == 'refused' else 0] += 1
+        if a[0] == 'refused':
+            places.setdefault(a[1], set()).add(a[2])
+        if a[0] == 'given':
+            r = recipe_of(t)
+            n = le(t[4:8])
+            assert table(r) == t[:n] and normal(r) == r
+    print('read', sorted(cr.items(), key=str), sum(szs) / len(szs), max(szs))
+    print('out', sorted(co.items()))
+    print({k: len(v) for k, v in sorted(places.items())})

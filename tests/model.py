@@ -1,0 +1,573 @@
+"""A reading of document 01 in another language: pure functions on bytes, sharing no code with the crates."""
+LIMIT = 1 << 20
+NAMES = (b'PPTT', b'SRAT', b'HMAT')
+FRONT = (36, 48, 40)
+REV = (3, 3, 1)
+TAIL = (b'', b'\x01\0\0\0' + bytes(8), bytes(4))
+BODY = {1: 27, 16: 12, 17: 4, 18: 21, 32: 21, 33: 17, 34: 10, 35: 9,
+        48: 8, 49: 13, 50: 5, 51: 5, 52: 4, 53: 16, 54: 2}
+ALL = 0xFFFFFFFF
+
+
+def le(b):
+    return int.from_bytes(b, 'little')
+
+
+def by(n, k):
+    return n.to_bytes(k, 'little')
+
+
+def table_of_kind(k):
+    if 16 <= k <= 18:
+        return 0
+    if 32 <= k <= 35:
+        return 1
+    if 48 <= k <= 54:
+        return 2
+    return None
+
+
+# ---------------------------------------------------------------- field rules
+
+def cache_attr_ok(a):
+    return a >> 5 == 0 and (a & 3) <= 2 and (a >> 2 & 3) <= 2
+
+
+def cache_ok(flags, size, sets, assoc, attr, line, ident):
+    """flags: 8 bits. A field whose bit is off is 0."""
+    if flags > 255:
+        return False
+    if not cache_attr_ok(attr):
+        return False
+    parts = (size, sets, assoc, attr & 3, attr >> 2 & 3, attr >> 4 & 1, line, ident)
+    return all(v == 0 or flags >> i & 1 for i, v in enumerate(parts))
+
+
+def matrix_ok(flags, dt, ts):
+    return flags & ~0x33 == 0 and dt <= 5 and ts <= 11
+
+
+def side_ok(a):
+    return (a & 15) <= 3 and (a >> 4 & 15) <= 3 and (a >> 8 & 15) <= 2 and (a >> 12 & 15) <= 2
+
+
+# ---------------------------------------------------------------- build
+
+class Stop(Exception):
+    def __init__(self, number, place):
+        self.number, self.place = number, place
+
+
+def cut(b, *sizes):
+    out, at = [], 0
+    for s in sizes:
+        out.append(le(b[at:at + s]))
+        at += s
+    assert at == len(b)
+    return out
+
+
+def parse(r):
+    """recipe -> (table code, head bytes, nodes); nodes: dicts. Raises Stop."""
+    if len(r) == 0 or r[0] != 1:
+        raise Stop(1, 0)
+    if len(r) < 28:
+        raise Stop(3, 0)
+    t = r[1]
+    if t > 2:
+        raise Stop(5, 0)
+    head = r[2:28]
+    nodes = []
+    total = FRONT[t]
+    p = 28
+    prev = 1                      # the kind of the record before
+    while p < len(r):
+        k = r[p]
+        if k not in BODY or table_of_kind(k) != t:
+            raise Stop(2, p)
+        e = p + 1 + BODY[k]
+        if e > len(r):
+            raise Stop(3, p)
+        b = r[p + 1:e]
+        if k == 17 and prev not in (16, 17):
+            raise Stop(4, p)
+        if k in (50, 51, 52) and prev not in (49, 50, 51, 52):
+            raise Stop(4, p)
+        if k == 54 and prev not in (53, 54):
+            raise Stop(4, p)
+        last = nodes[-1] if nodes else None
+        own = len(nodes) + 1      # ordinal of the node to come
+
+        def good(ref, kind, own):
+            return 1 <= ref < own and nodes[ref - 1]['kind'] == kind
+
+        grow = 0
+        new = None
+        if k == 16:
+            flags, parent, ident = cut(b, 4, 4, 4)
+            if parent != 0 and not good(parent, 16, own):
+                raise Stop(6, p)
+            new = dict(kind=16, flags=flags, parent=parent, id=ident, res=[])
+            grow = 20
+        elif k == 17:
+            (ref,) = cut(b, 4)
+            if not good(ref, 18, own - 1):
+                raise Stop(6, p)
+            if len(last['res']) >= 58:
+                raise Stop(7, p)
+            grow = 4
+        elif k == 18:
+            flags, nxt, size, sets, assoc, attr, line, ident = cut(b, 1, 4, 4, 4, 1, 1, 2, 4)
+            if not cache_ok(flags, size, sets, assoc, attr, line, ident):
+                raise Stop(5, p)
+            if nxt != 0 and not good(nxt, 18, own):
+                raise Stop(6, p)
+            new = dict(kind=18, flags=flags, next=nxt, rest=b[5:])
+            grow = 28
+        elif k == 32:
+            dom, base, length, flags = cut(b, 4, 8, 8, 1)
+            if flags > 7:
+                raise Stop(5, p)
+            new = dict(kind=32, dom=dom, base=base, length=length, flags=flags)
+            grow = 40
+        elif k == 33:
+            dom, hid, uid, flags = cut(b, 4, 8, 4, 1)
+            if flags > 3:
+                raise Stop(5, p)
+            new = dict(kind=33, dom=dom, hid=hid, uid=uid, flags=flags)
+            grow = 32
+        elif k == 34:
+            dom, seg, bus, dev, fun, flags = cut(b, 4, 2, 1, 1, 1, 1)
+            if dev > 31 or fun > 7 or flags > 3:
+                raise Stop(5, p)
+            new = dict(kind=34, dom=dom, seg=seg, bus=bus, dev=dev, fun=fun, flags=flags)
+            grow = 32
+        elif k == 35:
+            uid, flags, clock = cut(b, 4, 1, 4)
+            if flags > 1:
+                raise Stop(5, p)
+            new = dict(kind=35, uid=uid, flags=flags, clock=clock)
+            grow = 16
+        elif k == 48:
+            ini, mem = cut(b, 4, 4)
+            new = dict(kind=48, ini=ini, mem=mem)
+            grow = 40
+        elif k == 49:
+            flags, dt, ts, unit, I, T = cut(b, 1, 1, 1, 8, 1, 1)
+            if not matrix_ok(flags, dt, ts):
+                raise Stop(5, p)
+            new = dict(kind=49, flags=flags, dt=dt, ts=ts, unit=unit, I=I, T=T,
+                       iv={}, tv={}, cells={})
+            grow = 32 + 4 * I + 4 * T + 2 * I * T
+        elif k in (50, 51):
+            idx, val = cut(b, 1, 4)
+            if idx >= last['I' if k == 50 else 'T']:
+                raise Stop(5, p)
+        elif k == 52:
+            i, t2, val = cut(b, 1, 1, 2)
+            if i >= last['I'] or t2 >= last['T']:
+                raise Stop(5, p)
+        elif k == 53:
+            dom, size, attr = cut(b, 4, 8, 4)
+            if not side_ok(attr):
+                raise Stop(5, p)
+            new = dict(kind=53, dom=dom, size=size, attr=attr, hs=[])
+            grow = 32
+        elif k == 54:
+            (h,) = cut(b, 2)
+            if len(last['hs']) >= 65535:
+                raise Stop(7, p)
+            grow = 2
+        if total + grow > LIMIT:
+            raise Stop(8, p)
+        # taken
+        if new is not None:
+            new['at'] = total
+            nodes.append(new)
+        elif k == 17:
+            last['res'].append(ref)
+        elif k == 50:
+            last['iv'][idx] = val
+        elif k == 51:
+            last['tv'][idx] = val
+        elif k == 52:
+            last['cells'][i, t2] = val
+        elif k == 54:
+            last['hs'].append(h)
+        total += grow
+        prev = k
+        p = e
+    return t, head, nodes, total
+
+
+def node_bytes(n, nodes):
+    def place(ref):
+        return 0 if ref == 0 else nodes[ref - 1]['at']
+    k = n['kind']
+    if k == 16:
+        c = len(n['res'])
+        return (bytes([0, 20 + 4 * c, 0, 0]) + by(n['flags'], 4) + by(place(n['parent']), 4)
+                + by(n['id'], 4) + by(c, 4) + b''.join(by(place(x), 4) for x in n['res']))
+    if k == 18:
+        return bytes([1, 28, 0, 0]) + by(n['flags'], 4) + by(place(n['next']), 4) + n['rest']
+    if k == 32:
+        return (bytes([1, 40]) + by(n['dom'], 4) + bytes(2) + by(n['base'], 8) + by(n['length'], 8)
+                + bytes(4) + by(n['flags'], 4) + bytes(8))
+    if k == 33:
+        return (bytes([5, 32, 0, 0]) + by(n['dom'], 4) + by(n['hid'], 8) + by(n['uid'], 4) + bytes(4)
+                + by(n['flags'], 4) + bytes(4))
+    if k == 34:
+        return (bytes([5, 32, 0, 1]) + by(n['dom'], 4) + by(n['seg'], 2)
+                + bytes([n['bus'], n['dev'] * 8 + n['fun']]) + bytes(12)
+                + by(n['flags'], 4) + bytes(4))
+    if k == 35:
+        return bytes([7, 16, 0, 0]) + by(n['uid'], 4) + by(n['flags'], 4) + by(n['clock'], 4)
+    if k == 48:
+        return (by(0, 2) + bytes(2) + by(40, 4) + by(1, 2) + bytes(2) + by(n['ini'], 4)
+                + by(n['mem'], 4) + bytes(20))
+    if k == 49:
+        I, T = n['I'], n['T']
+        vals = b''.join(by(n['iv'].get(i, 0), 4) for i in range(I))
+        vals += b''.join(by(n['tv'].get(i, 0), 4) for i in range(T))
+        vals += b''.join(by(n['cells'].get((i, t), 0xFFFF), 2) for i in range(I) for t in range(T))
+        return (by(1, 2) + bytes(2) + by(32 + len(vals), 4) + bytes([n['flags'], n['dt'], n['ts'], 0])
+                + by(I, 4) + by(T, 4) + bytes(4) + by(n['unit'], 8) + vals)
+    if k == 53:
+        hs = n['hs']
+        return (by(2, 2) + bytes(2) + by(32 + 2 * len(hs), 4) + by(n['dom'], 4) + bytes(4)
+                + by(n['size'], 8) + by(n['attr'], 4) + bytes(2) + by(len(hs), 2)
+                + b''.join(by(h, 2) for h in hs))
+    raise AssertionError(k)
+
+
+def build(r, room):
+    try:
+        _, _, _, total = parse(r)
+    except Stop as s:
+        return ('refused', s.number, s.place)
+    if room < total:
+        return ('refused', 9, total)
+    return ('given', total)
+
+
+def mend(table):
+    """the table with its checksum byte made right for its own length field"""
+    b = bytearray(table)
+    n = min(le(b[4:8]), len(b))
+    if len(b) > 9:
+        b[9] = 0
+        b[9] = -sum(b[:n]) % 256
+    return bytes(b)
+
+
+def table(r):
+    try:
+        t, head, nodes, total = parse(r)
+    except Stop:
+        return b''
+    b = (NAMES[t] + by(total, 4) + bytes([REV[t], 0]) + head + TAIL[t]
+         + b''.join(node_bytes(n, nodes) for n in nodes))
+    assert len(b) == total
+    s = -sum(b) % 256
+    return b[:9] + bytes([s]) + b[10:]
+
+
+def built(r, buf):
+    a = build(r, len(buf))
+    if a[0] == 'refused':
+        return bytes(buf)
+    return table(r) + bytes(buf[a[1]:])
+
+
+def node_recipe(n):
+    k = n['kind']
+    if k == 16:
+        return (bytes([16]) + by(n['flags'], 4) + by(n['parent'], 4) + by(n['id'], 4)
+                + b''.join(bytes([17]) + by(x, 4) for x in n['res']))
+    if k == 18:
+        return bytes([18, n['flags']]) + by(n['next'], 4) + n['rest']
+    if k == 32:
+        return bytes([32]) + by(n['dom'], 4) + by(n['base'], 8) + by(n['length'], 8) + bytes([n['flags']])
+    if k == 33:
+        return bytes([33]) + by(n['dom'], 4) + by(n['hid'], 8) + by(n['uid'], 4) + bytes([n['flags']])
+    if k == 34:
+        return (bytes([34]) + by(n['dom'], 4) + by(n['seg'], 2)
+                + bytes([n['bus'], n['dev'], n['fun'], n['flags']]))
+    if k == 35:
+        return bytes([35]) + by(n['uid'], 4) + bytes([n['flags']]) + by(n['clock'], 4)
+    if k == 48:
+        return bytes([48]) + by(n['ini'], 4) + by(n['mem'], 4)
+    if k == 49:
+        out = (bytes([49, n['flags'], n['dt'], n['ts']]) + by(n['unit'], 8) + bytes([n['I'], n['T']]))
+        for i in sorted(n['iv']):
+            if n['iv'][i] != 0:
+                out += bytes([50, i]) + by(n['iv'][i], 4)
+        for i in sorted(n['tv']):
+            if n['tv'][i] != 0:
+                out += bytes([51, i]) + by(n['tv'][i], 4)
+        cs = []
+        for i, t in sorted(n['cells']):
+            v = n['cells'][i, t]
+            if v != 0xFFFF:
+                cs.append(bytes([52, i, t]) + by(v, 2))
+        return out + b''.join(cs)
+    if k == 53:
+        return (bytes([53]) + by(n['dom'], 4) + by(n['size'], 8) + by(n['attr'], 4)
+                + b''.join(bytes([54]) + by(h, 2) for h in n['hs']))
+    raise AssertionError(k)
+
+
+def normal(r):
+    try:
+        t, head, nodes, _ = parse(r)
+    except Stop:
+        return b''
+    return bytes([1, t]) + head + b''.join(node_recipe(n) for n in nodes)
+
+
+# ---------------------------------------------------------------- reading
+
+def row_of(t, rev, typ, b, mask):
+    """the known row that the record b matches, or None"""
+    if rev != REV[t]:
+        return None
+    n = len(b)
+    row = None
+    if t == 0:
+        if typ == 0 and 20 <= n <= 252 and n % 4 == 0:
+            row = 0
+        elif typ == 1 and n == 28:
+            row = 1
+    elif t == 1:
+        if typ == 1 and n == 40:
+            row = 2
+        elif typ == 5 and n == 32:
+            row = 3
+        elif typ == 7 and n == 16:
+            row = 4
+    else:
+        if typ == 0 and n == 40:
+            row = 5
+        elif typ == 1 and n >= 32 and le(b[12:16]) <= 255 and le(b[16:20]) <= 255:
+            row = 6
+        elif typ == 2 and n >= 32:
+            row = 7
+    if row is None or not mask >> row & 1:
+        return None
+    return row
+
+
+def fields_of(row, b):
+    """(fine, fields) of a record of that row"""
+    n = len(b)
+    if row == 0:
+        z, flags, parent, ident, c = (le(b[2:4]), le(b[4:8]), le(b[8:12]), le(b[12:16]), le(b[16:20]))
+        return z == 0 and n == 20 + 4 * c, [flags, parent, ident, c]
+    if row == 1:
+        z, flags, nxt, size, sets, assoc, attr, line, ident = cut(b[2:], 2, 4, 4, 4, 4, 1, 1, 2, 4)
+        return (z == 0 and cache_ok(flags, size, sets, assoc, attr, line, ident),
+                [flags, nxt, size, sets, assoc, attr, line, ident])
+    if row == 2:
+        dom, z1, base, length, z2, flags, z3 = cut(b[2:], 4, 2, 8, 8, 4, 4, 8)
+        return z1 == z2 == z3 == 0 and flags <= 7, [dom, base, length, flags]
+    if row == 3:
+        z, ht, dom = cut(b[2:8], 1, 1, 4)
+        h = b[8:24]
+        flags, z2 = cut(b[24:], 4, 4)
+        ok = z == 0 and z2 == 0 and flags <= 3
+        if ht == 0:
+            return ok and le(h[12:]) == 0, [ht, dom, le(h[:8]), le(h[8:12]), flags]
+        if ht == 1:
+            return ok and le(h[4:]) == 0, [ht, dom, le(h[:2]), h[2], h[3] >> 3, h[3] & 7, flags]
+        return False, []
+    if row == 4:
+        z, uid, flags, clock = cut(b[2:], 2, 4, 4, 4)
+        return z == 0 and flags <= 1, [uid, flags, clock]
+    z0 = le(b[2:4])
+    if row == 5:
+        f, z, ini, mem, z2 = cut(b[8:], 2, 2, 4, 4, 20)
+        return z0 == 0 and f == 1 and z == 0 and z2 == 0, [ini, mem]
+    if row == 6:
+        flags, dt, ts, z, I, T, z2, unit = cut(b[8:32], 1, 1, 1, 1, 4, 4, 4, 8)
+        ok = (z0 == 0 and z == 0 and z2 == 0 and matrix_ok(flags, dt, ts)
+              and n == 32 + 4 * I + 4 * T + 2 * I * T)
+        return ok, [flags, dt, ts, I, T, unit]
+    if row == 7:
+        dom, z, size, attr, z2, c = cut(b[8:32], 4, 4, 8, 4, 2, 2)
+        return z0 == 0 and z == 0 and z2 == 0 and side_ok(attr) and n == 32 + 2 * c, [dom, size, attr, c]
+    raise AssertionError(row)
+
+
+def judge(lent, mask):
+    """(table code, revision, length, records) or Stop; a record is (type, place, length, row, fields)"""
+    if len(lent) < 36:
+        raise Stop(20, 0)
+    if lent[:4] not in NAMES:
+        raise Stop(21, 0)
+    t = NAMES.index(lent[:4])
+    n = le(lent[4:8])
+    if n < FRONT[t] or n > len(lent) or n > LIMIT:
+        raise Stop(22, 0)
+    tab = lent[:n]
+    if sum(tab) % 256:
+        raise Stop(23, 0)
+    if tab[36:FRONT[t]] != TAIL[t]:
+        raise Stop(24, 0)
+    rev = tab[8]
+    recs = []
+    starts = {}
+    p = FRONT[t]
+    while p < n:
+        if t == 2:
+            if n - p < 8:
+                raise Stop(25, p)
+            typ, size, least = le(tab[p:p + 2]), le(tab[p + 4:p + 8]), 8
+        else:
+            if n - p < 2:
+                raise Stop(25, p)
+            typ, size, least = tab[p], tab[p + 1], 2
+        if size < least or p + size > n:
+            raise Stop(25, p)
+        b = tab[p:p + size]
+        row = row_of(t, rev, typ, b, mask)
+        fields = []
+        if row is not None:
+            fine, fields = fields_of(row, b)
+            if not fine:
+                raise Stop(26, p)
+            if row == 0:
+                if fields[1] != 0 and starts.get(fields[1]) != 0:
+                    raise Stop(27, p)
+                for i in range(fields[3]):
+                    if starts.get(le(b[20 + 4 * i:24 + 4 * i])) != 1:
+                        raise Stop(27, p)
+            elif row == 1:
+                if fields[1] != 0 and starts.get(fields[1]) != 1:
+                    raise Stop(27, p)
+        recs.append((typ, p, size, row, fields))
+        starts[p] = typ
+        p += size
+    return t, rev, n, recs
+
+
+def read(lent, mask, n):
+    try:
+        t, rev, length, recs = judge(lent, mask)
+    except Stop as s:
+        return ('refused', s.number, s.place)
+    if n >= len(recs):
+        return ('refused', 28, len(recs))
+    typ, p, size, row, fields = recs[n]
+    return ('given', len(recs), typ, p, size, row, fields)
+
+
+def part(lent, mask, n):
+    a = read(lent, mask, n)
+    if a[0] == 'refused':
+        return b''
+    _, _, _, p, size, row, _ = a
+    b = lent[p:p + size]
+    if row is None:
+        return b
+    if row == 0:
+        return b[20:]
+    if row in (6, 7):
+        return b[32:]
+    return b''
+
+
+# ---------------------------------------------------------------- reading out
+
+def out(lent):
+    t, rev, n, recs = judge(lent, ALL)
+    if rev != REV[t]:
+        raise Stop(30, 8)
+    for _, p, _, row, _ in recs:
+        if row is None:
+            raise Stop(29, p)
+    ordinal = {0: 0}
+    for i, rec in enumerate(recs):
+        ordinal[rec[1]] = i + 1
+    o = [bytes([1, t]) + lent[10:36]]
+    for typ, p, size, row, f in recs:
+        b = lent[p:p + size]
+        if row == 0:
+            o.append(bytes([16]) + by(f[0], 4) + by(ordinal[f[1]], 4) + by(f[2], 4))
+            for i in range(f[3]):
+                o.append(bytes([17]) + by(ordinal[le(b[20 + 4 * i:24 + 4 * i])], 4))
+        elif row == 1:
+            o.append(bytes([18, f[0]]) + by(ordinal[f[1]], 4) + b[12:28])
+        elif row == 2:
+            o.append(bytes([32]) + by(f[0], 4) + by(f[1], 8) + by(f[2], 8) + bytes([f[3]]))
+        elif row == 3:
+            if f[0] == 0:
+                o.append(bytes([33]) + by(f[1], 4) + by(f[2], 8) + by(f[3], 4) + bytes([f[4]]))
+            else:
+                o.append(bytes([34]) + by(f[1], 4) + by(f[2], 2) + bytes(f[3:7]))
+        elif row == 4:
+            o.append(bytes([35]) + by(f[0], 4) + bytes([f[1]]) + by(f[2], 4))
+        elif row == 5:
+            o.append(bytes([48]) + by(f[0], 4) + by(f[1], 4))
+        elif row == 6:
+            flags, dt, ts, I, T, unit = f
+            o.append(bytes([49, flags, dt, ts]) + by(unit, 8) + bytes([I, T]))
+            q = 32
+            for i in range(I):
+                v = b[q:q + 4]
+                if le(v):
+                    o.append(bytes([50, i]) + v)
+                q += 4
+            for i in range(T):
+                v = b[q:q + 4]
+                if le(v):
+                    o.append(bytes([51, i]) + v)
+                q += 4
+            for i in range(I):
+                for j in range(T):
+                    v = b[q:q + 2]
+                    if le(v) != 0xFFFF:
+                        o.append(bytes([52, i, j]) + v)
+                    q += 2
+        elif row == 7:
+            o.append(bytes([53]) + by(f[0], 4) + by(f[1], 8) + by(f[2], 4))
+            for i in range(f[3]):
+                o.append(bytes([54]) + b[32 + 2 * i:34 + 2 * i])
+    return b''.join(o)
+
+
+def recipe_of(lent):
+    try:
+        return out(lent)
+    except Stop:
+        return b''
+
+
+def read_out(lent, room):
+    try:
+        r = out(lent)
+    except Stop as s:
+        return ('refused', s.number, s.place)
+    if room < len(r):
+        return ('refused', 31, len(r))
+    return ('given', len(r))
+
+
+def out_written(lent, buf):
+    a = read_out(lent, len(buf))
+    if a[0] == 'refused':
+        return bytes(buf)
+    return recipe_of(lent) + bytes(buf[a[1]:])
+
+
+# ---------------------------------------------------------------- listtab
+
+def listing(whole):
+    lent = whole[:65536]
+    try:
+        t, rev, n, recs = judge(lent, ALL)
+    except Stop as s:
+        return b'refused %d %d\n' % (s.number, s.place)
+    o = [b'%s %d %d %d\n' % (NAMES[t], rev, n, len(recs))]
+    for typ, p, size, row, _ in recs:
+        o.append(b'%d %d %d %s\n' % (p, typ, size, b'unknown' if row is None else b'known'))
+    return b''.join(o)
