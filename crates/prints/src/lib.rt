@@ -1,6 +1,15 @@
-// What the programs that build and read out write: bytes to standard output, a refusal to standard error.
+// What the programs share: room for a table, bytes to standard output, a refusal to standard error.
+ghost use mathlib.Core.Path.{_≡_};
+ghost use lib.ListN.{length};
 use libc::STDERR_FILENO;
 use libc::STDOUT_FILENO;
+
+// 1,114,112 zeros: room for the longest table, with 65,536 bytes to spare.
+pub fn room() -> [u8; 1114112]
+    ensures { λ r. ⌜ 1114112 ≡ length r ⌝ }
+{
+    [0; 1114112]
+}
 
 // The first n bytes of a buffer.
 pub fn write_first(bytes: &[u8], n: usize) {

@@ -1,0 +1,233 @@
+// The records of HMAT.
+use crate::words;
+use hmat::MemoryProximityDomain;
+use hmat::MemorySideCache;
+use hmat::SystemLocality;
+
+// A domain; of a known record the flags have one value.
+pub fn domain(n: MemoryProximityDomain) {
+    words::flags(MemoryProximityDomain::DOMAIN_VALID as u64);
+    words::say(b" domain valid\n");
+    words::line(b"initiator domain", n.proximity_domain_initiator as u64);
+    words::line(b"memory domain", n.proximity_domain_memory as u64);
+}
+
+// ---- matrices
+
+// The lowest two bits: which level the matrix is about.
+fn locality(flags: u8) -> bool {
+    match flags % 4 {
+        0 => words::item(b"memory", false),
+        1 => words::item(b"first level cache", false),
+        2 => words::item(b"second level cache", false),
+        _ => words::item(b"third level cache", false),
+    }
+}
+
+// The flags of a matrix: a level, and two bits.
+fn matrix_flags(flags: u8) {
+    words::flags(flags as u64);
+    let some = locality(flags);
+    let bits = flags as u32;
+    let required = SystemLocality::MINIMUM_TRANSFER_SIZE_REQD as u32;
+    let some = words::bit(bits, required, b"minimum transfer size required", some);
+    let scattered = SystemLocality::NON_SEQUENTIAL_TRANSFERS as u32;
+    words::bit(bits, scattered, b"non sequential transfers", some);
+    words::end();
+}
+
+// What the entries are.
+fn data_type(n: u8) {
+    words::name(b"data type");
+    words::number(n as u64);
+    match n {
+        0 => words::say(b" (access latency)\n"),
+        1 => words::say(b" (read latency)\n"),
+        2 => words::say(b" (write latency)\n"),
+        3 => words::say(b" (access bandwidth)\n"),
+        4 => words::say(b" (read bandwidth)\n"),
+        5 => words::say(b" (write bandwidth)\n"),
+        _ => words::end(),
+    }
+}
+
+// A number above 0 stands for a power of two, from 64 bytes on.
+fn transfer_size(n: u8) {
+    words::name(b"minimum transfer size");
+    words::number(n as u64);
+    match n {
+        0 => words::say(b" (byte aligned)\n"),
+        1 => words::say(b" (64 bytes)\n"),
+        2 => words::say(b" (128 bytes)\n"),
+        3 => words::say(b" (256 bytes)\n"),
+        4 => words::say(b" (512 bytes)\n"),
+        5 => words::say(b" (1 KiB)\n"),
+        6 => words::say(b" (2 KiB)\n"),
+        7 => words::say(b" (4 KiB)\n"),
+        8 => words::say(b" (8 KiB)\n"),
+        9 => words::say(b" (16 KiB)\n"),
+        10 => words::say(b" (32 KiB)\n"),
+        11 => words::say(b" (64 KiB)\n"),
+        _ => words::end(),
+    }
+}
+
+// The width of a column that has room for a number behind two spaces, and is not narrower than w.
+fn wider(w: usize, n: u32) -> usize {
+    let mut digits = [0u8; 20];
+    let k = io::decimal(n as u64, &mut digits);
+    if 20 < k {
+        return w;
+    }
+    if w < k + 2 {
+        return k + 2;
+    }
+    w
+}
+
+// The width of the column of initiators: no narrower than its name.
+fn label_width(table: &[u8], place: usize, initiators: usize) -> usize {
+    let mut w = 13;
+    let mut i = 0;
+    while i < initiators {
+        w = wider(w, SystemLocality::initiator_value(table, place, i));
+        i += 1;
+    }
+    w
+}
+
+// The width of the columns of targets: no narrower than the widest entry.
+fn entry_width(table: &[u8], place: usize, initiators: usize, targets: usize) -> usize {
+    let mut w = 7;
+    let mut t = 0;
+    while t < targets {
+        w = wider(w, SystemLocality::target_value(table, place, initiators, t));
+        t += 1;
+    }
+    w
+}
+
+// How wide the columns are.
+struct Widths {
+    label: usize,
+    entry: usize,
+}
+
+// The targets, above their columns.
+fn target_line(table: &[u8], place: usize, initiators: usize, targets: usize, w: Widths) {
+    let mut line = io::buffer();
+    let mut at = words::lay_right(&mut line, 0, w.label, b"initiator");
+    let mut t = 0;
+    while t < targets {
+        let v = SystemLocality::target_value(table, place, initiators, t);
+        at = words::lay_number(&mut line, at, w.entry, v as u64);
+        t += 1;
+    }
+    words::write_line(&mut line, at);
+}
+
+// Lays an entry; one that is not set is a dash.
+fn lay_entry(line: &mut [u8; 4096], at: usize, width: usize, v: u16) -> usize {
+    if v == SystemLocality::UNREACHABLE_DOMAIN {
+        return words::lay_right(line, at, width, b"-");
+    }
+    words::lay_number(line, at, width, v as u64)
+}
+
+// Initiator i, and its entry for each target.
+fn entry_line(table: &[u8], place: usize, initiators: usize, targets: usize, i: usize, w: Widths) {
+    let mut line = io::buffer();
+    let initiator = SystemLocality::initiator_value(table, place, i);
+    let mut at = words::lay_number(&mut line, 0, w.label, initiator as u64);
+    let mut t = 0;
+    while t < targets {
+        let v = SystemLocality::entry_value(table, place, initiators, targets, i, t);
+        at = lay_entry(&mut line, at, w.entry, v);
+        t += 1;
+    }
+    words::write_line(&mut line, at);
+}
+
+// A line for the targets and one for each initiator.
+fn entries(table: &[u8], place: usize, initiators: usize, targets: usize) {
+    let w = Widths {
+        label: label_width(table, place, initiators),
+        entry: entry_width(table, place, initiators, targets),
+    };
+    target_line(table, place, initiators, targets, w);
+    let mut i = 0;
+    while i < initiators {
+        entry_line(table, place, initiators, targets, i, w);
+        i += 1;
+    }
+}
+
+// A matrix. What its base unit measures depends on the revision that a guest goes by, so that no unit is named.
+pub fn matrix(table: &[u8], place: usize, m: SystemLocality) {
+    matrix_flags(m.flags);
+    data_type(m.data_type);
+    transfer_size(m.min_transfer_size);
+    words::line(b"base unit", m.entry_base_unit);
+    words::line(b"initiators", m.initiators as u64);
+    words::line(b"targets", m.targets as u64);
+    words::say(b"  entries times ");
+    words::number(m.entry_base_unit);
+    words::say(b", a line for each initiator, a column for each target, - where unset\n");
+    entries(table, place, m.initiators as usize, m.targets as usize);
+}
+
+// ---- side caches
+
+// How the cache finds a line.
+fn associativity(a: u32) {
+    words::say(b", associativity ");
+    match a / 256 % 16 {
+        0 => words::say(b"none"),
+        1 => words::say(b"direct mapped"),
+        _ => words::say(b"complex"),
+    }
+}
+
+// When the cache writes.
+fn policy(a: u32) {
+    words::say(b", policy ");
+    match a / 4096 % 16 {
+        0 => words::say(b"none"),
+        1 => words::say(b"writeback"),
+        _ => words::say(b"writethrough"),
+    }
+}
+
+// Levels, associativity, policy and line size.
+fn attributes(a: u32) {
+    words::name(b"attributes");
+    words::hex(a as u64);
+    words::say(b" levels ");
+    words::number((a % 16) as u64);
+    words::say(b", this level ");
+    words::number((a / 16 % 16) as u64);
+    associativity(a);
+    policy(a);
+    words::say(b", line size ");
+    words::number((a / 65536) as u64);
+    words::end();
+}
+
+// The handles of the side cache at a place.
+fn handles(table: &[u8], place: usize, count: usize) {
+    let mut i = 0;
+    while i < count {
+        let handle = MemorySideCache::smbios_handle(table, place, i);
+        words::hex_line(b"SMBIOS handle", handle as u64);
+        i += 1;
+    }
+}
+
+// A side cache, and a line for each of its handles.
+pub fn side(table: &[u8], place: usize, n: MemorySideCache) {
+    words::line(b"domain", n.proximity_domain as u64);
+    words::line(b"size", n.cache_size);
+    attributes(n.attributes);
+    words::line(b"SMBIOS handles", n.smbios_handles as u64);
+    handles(table, place, n.smbios_handles as usize);
+}
