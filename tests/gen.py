@@ -2,6 +2,7 @@
 import random
 from model import *
 
+CREATOR = b'RVAT' + bytes([0, 0, 0, 1])  # the creator fields of the crate acpi_tables
 KINDS = {0: (16, 17, 18), 1: (32, 33, 34, 35), 2: (48, 49, 50, 51, 52, 53, 54)}
 
 
@@ -313,6 +314,12 @@ def full_recipe(R, n):
     return r
 
 
+def handles_recipe(R):
+    """as many handles on one side cache as its count holds, and one more"""
+    n = R.choice([65534, 65535, 65535, 65536, 65536])
+    return head(R, 2) + g_side(R) + (bytes([54]) + by(num(R, 2), 2)) * n + R.choice([b'', b'', bytes([48]) + bytes(8), b'\x36'])
+
+
 def long_recipe(R):
     """lengths about the limit, with few records"""
     r = head(R, 2)
@@ -356,6 +363,8 @@ def long_recipe(R):
 
 
 def recipe(R):
+    if R.random() < .0003:
+        return handles_recipe(R)
     c = R.random()
     if c < .01:
         return R.choice([b'', b'\x01', bytes([R.randrange(256)]), b'\x01\x03', bytes(28), bytes([1, 3]) + bytes(26)])
@@ -373,6 +382,19 @@ def recipe(R):
             return x
         h, recs = x
     return h + b''.join(recs)
+
+
+def outside(recipe):
+    """a recipe that meets one of the differences of docs/DIFFERENCES.md"""
+    at, oblong = 28, False
+    while at < len(recipe):
+        kind = recipe[at]
+        if kind == 35 or (kind == 52 and oblong):
+            return True
+        if kind == 49:
+            oblong = recipe[at + 12] != recipe[at + 13]
+        at += 1 + BODY[kind]
+    return recipe[1] == 0 and len(recipe) == 28
 
 
 # ---------------------------------------------------------------- tables

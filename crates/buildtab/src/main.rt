@@ -1,5 +1,5 @@
 // Writes the table of the recipe on standard input to standard output; a refusal is one line on standard error.
-// A recipe has to be shorter than 65,536 bytes here, and its table may have that many.
+// A recipe has to be shorter than 1,114,112 bytes here, and its table may have that many.
 use build::Built;
 use libc::STDERR_FILENO;
 
@@ -12,13 +12,13 @@ fn show(answer: Built, table: &[u8]) {
 }
 
 fn main() {
-    let mut recipe = io::large_buffer();
+    let mut recipe = prints::room();
     let n = io::read_full(0, &mut recipe);
-    if 65536 <= n {
-        io::write_all(STDERR_FILENO, b"the recipe has 65536 bytes or more\n");
+    if 1114112 <= n {
+        io::write_all(STDERR_FILENO, b"the recipe has 1114112 bytes or more\n");
         return;
     }
-    let mut table = io::large_buffer();
+    let mut table = prints::room();
     let answer = build::build(&recipe[..n], &mut table);
     show(answer, &table);
 }

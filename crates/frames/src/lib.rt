@@ -64,7 +64,7 @@ impl Refusal {
 // ---- bytes
 
 // The first n bytes, or as many as there are.
-fn first(s: &[u8], n: usize) -> &[u8]
+pub fn first(s: &[u8], n: usize) -> &[u8]
     ensures { λ r. ⌜ now r ≡ take n (now (s .entry)) ⌝ }
 {
     if s.len() <= n {
@@ -73,7 +73,8 @@ fn first(s: &[u8], n: usize) -> &[u8]
     &s[..n]
 }
 
-fn same(a: &[u8], b: &[u8]) -> bool
+// Whether two byte strings are the same.
+pub fn same(a: &[u8], b: &[u8]) -> bool
     ensures { λ r. ⌜ r ≡ same (now (a .entry)) (now (b .entry)) ⌝ }
 {
     if a.len() != b.len() {

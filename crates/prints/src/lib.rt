@@ -1,14 +1,23 @@
-// What the programs share: room for a table, bytes to standard output, a refusal to standard error.
+// What the programs that build and read out lend and write: room for a table or a recipe, bytes to standard output, a refusal to standard error.
 ghost use mathlib.Core.Path.{_≡_};
-ghost use lib.ListN.{length};
+ghost use lib.ListN.{length, replicate};
 use libc::STDERR_FILENO;
 use libc::STDOUT_FILENO;
 
-// 1,114,112 zeros: room for the longest table, with 65,536 bytes to spare.
+// Room for the longest table, 1,048,576 bytes, and 65,536 more: zeros.
 pub fn room() -> [u8; 1114112]
     ensures { λ r. ⌜ 1114112 ≡ length r ⌝ }
+    ensures { λ r. ⌜ r ≡ replicate 1114112 0 ⌝ }
 {
     [0; 1114112]
+}
+
+// Room for a line of text: 1,114,112 bytes in hexadecimal digits, and 64 characters for what stands before them.
+pub fn line() -> [u8; 2228288]
+    ensures { λ r. ⌜ 2228288 ≡ length r ⌝ }
+    ensures { λ r. ⌜ r ≡ replicate 2228288 0 ⌝ }
+{
+    [0; 2228288]
 }
 
 // The first n bytes of a buffer.

@@ -1,0 +1,31 @@
+-- `calls::print::hex` is safe and ends: one byte fewer is left with each turn.
+use mathlib.Core.Path.{_≡_}
+use Prim.Native.Nat.{_-_}
+use borrow.Author.Needs.{needs}
+use lib.ListN.{length}
+use Rattle.calls.proofs.print.hex.Statement.{statement}
+use Rattle.calls.proofs.print.hex.Tie as tie
+
+abbrev Inv-loop : tie.InvT-loop
+Inv-loop text₀ n s m₀ i₀ text m i = length text ≡ length text₀
+
+abbrev μ-loop : tie.MeasureT-loop
+μ-loop text₀ n s m₀ i₀ text m i = length s - i
+
+pub hex-spec : {M : Type 1} → statement M
+hex-spec =
+    tie.close
+    (tie.spec
+    Inv-loop
+    μ-loop
+    (λ c κs. search needs)
+    (λ c. search needs)
+    (λ c. search needs)
+    (λ c. search needs)
+    (λ c. search needs)
+    (λ c κs. search needs)
+    (λ c. search needs)
+    (λ c. search needs)
+    (λ c. search needs)
+    (λ c. search needs)
+    (λ c. search needs))

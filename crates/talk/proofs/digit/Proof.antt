@@ -1,0 +1,17 @@
+-- `talk::digit` meets its contract: its test is the definition's.
+use borrow.Author.Tests.{le-ltb, lt-ltb}
+use Rattle.talk.specs.Hex.{digitOf}
+use borrow.Author.Needs.{needs}
+use Rattle.talk.proofs.digit.Statement.{statement}
+use Rattle.talk.proofs.digit.Tie as tie
+
+returns : tie.Need-returns
+unfolding digitOf
+returns c = simp (lt-ltb _ _ (c .if1 .taken))
+
+returns-2 : tie.Need-returns-2
+unfolding digitOf
+returns-2 c = simp (le-ltb _ _ (c .if1 .left))
+
+pub digit-spec : {M : Type 1} → statement M
+digit-spec = tie.close (tie.spec (λ c. search needs) returns (λ c. search needs) returns-2)

@@ -1,0 +1,19 @@
+-- A line's words, and the calls that the first one names.
+use Prim.Native.Nat.{ℕ, suc}
+use mathlib.Core.List.{List, [], _∷_}
+use lib.Dec.{eqb}
+use Rattle.format.specs.Bytes.{pick, same}
+use Rattle.talk.specs.declared.Call.{Call}
+use Rattle.talk.specs.declared.Call.the-variants.{Build, Out, Read, Other}
+
+-- how many bytes stand before the first space, 32
+unfoldable pub spaceIn : List ℕ → ℕ
+spaceIn [] = 0
+spaceIn (b ∷ bs) = pick (eqb b 32) 0 (suc (spaceIn bs))
+
+-- the words 'build', 'out' and 'read'
+unfoldable pub callIn : List ℕ → Call
+callIn w =
+    pick (same w (98 ∷ 117 ∷ 105 ∷ 108 ∷ 100 ∷ [])) Build
+    (pick (same w (111 ∷ 117 ∷ 116 ∷ [])) Out
+    (pick (same w (114 ∷ 101 ∷ 97 ∷ 100 ∷ [])) Read Other))
