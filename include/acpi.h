@@ -1,0 +1,111 @@
+/* The calls of libacpi.a (`rt staticlib acpi`), for C and C++ on x86-64. docs/PROMISES.md says what is proved of them.
+ *
+ * Each call that may refuse returns the refusal's number, 0 for none, and sets *place: to the refusal's place, else to
+ * the number that was asked for. A refusal leaves the lent buffer as it was; bytes past what is written are kept.
+ *
+ * A caller owes what C cannot say: each pointer has as many elements as its length says (with length 0 it may be any
+ * pointer but NULL), what is written to overlaps nothing else that is lent, and nobody else writes during a call.
+ */
+#ifndef ISPALMUTZU_ACPI_H
+#define ISPALMUTZU_ACPI_H
+
+#include <stddef.h>
+#include <stdint.h>
+
+#ifdef __cplusplus
+extern "C" {
+#endif
+
+/* What a call refuses; beside each what place is then. */
+enum acpi_refusal {
+    ACPI_NO_HEAD = 1,    /* 0 */
+    ACPI_BAD_KIND = 2,   /* 2 to 8: where the faulty record begins in the recipe */
+    ACPI_CUT = 3,
+    ACPI_MISPLACED = 4,
+    ACPI_BAD_FIELD = 5,
+    ACPI_BAD_REF = 6,
+    ACPI_FULL_NODE = 7,
+    ACPI_TOO_LONG = 8,
+    ACPI_NO_ROOM = 9,    /* the length of the table */
+
+    ACPI_SHORT = 20,     /* 20 to 24: 0 */
+    ACPI_BAD_SIGN = 21,
+    ACPI_BAD_LENGTH = 22,
+    ACPI_BAD_SUM = 23,
+    ACPI_BAD_FRONT = 24,
+    ACPI_BAD_FRAME = 25, /* 25 to 27: where the faulty record begins in the table */
+    ACPI_BAD_RECORD = 26,
+    ACPI_BAD_REF_READ = 27,
+    ACPI_NO_RECORD = 28, /* the number of records */
+    ACPI_UNKNOWN = 29,   /* where the unknown record begins in the table */
+    ACPI_REVISION = 30,  /* 8 */
+    ACPI_NO_ROOM_OUT = 31 /* the length of the recipe */
+};
+
+/* The rows that a record may be of; a mask has bit 1 << row for each row that is known. */
+enum acpi_row {
+    ACPI_ROW_PROCESSOR = 0,
+    ACPI_ROW_CACHE = 1,
+    ACPI_ROW_MEMORY = 2,
+    ACPI_ROW_INITIATOR = 3,
+    ACPI_ROW_RINTC = 4,
+    ACPI_ROW_DOMAIN = 5,
+    ACPI_ROW_MATRIX = 6,
+    ACPI_ROW_SIDE = 7,
+    ACPI_ROW_UNKNOWN = 255
+};
+
+/* The mask of all rows. */
+#define ACPI_EVERY 0xffffffffu
+
+/* Where the numbers of a record stand in an answer. The fields, in the order of the layout:
+ *   processor   flags, parent's place, processor id, number of resources
+ *   cache       flags, next level's place, size, sets, associativity, attributes, line size, id
+ *   memory      domain, base, length, flags
+ *   initiator   0, domain, hid, uid, flags for an ACPI handle; 1, domain, segment, bus, device, function, flags for PCI
+ *   RINTC       uid, flags, clock domain
+ *   domain      initiator, memory
+ *   matrix      flags, data type, transfer size, initiators I, targets T, base unit
+ *   side cache  domain, size, attributes, number of SMBIOS handles
+ *   unknown     none
+ */
+enum acpi_answer {
+    ACPI_TYPE = 0,
+    ACPI_PLACE = 1,
+    ACPI_LENGTH = 2,
+    ACPI_ROW = 3,
+    ACPI_PART_PLACE = 4, /* the part of the table that comes back: a list inside the record, or an unknown record whole */
+    ACPI_PART_LENGTH = 5,
+    ACPI_FIELDS = 6,
+    ACPI_ANSWER = 14     /* so many numbers are enough for every record */
+};
+
+/* The longest table. */
+#define ACPI_LIMIT 1048576u
+
+/* Builds the table of a recipe into out. Refuses 1 to 9; place gets the table's length. */
+uint32_t acpi_build(const uint8_t *recipe, size_t recipe_len, uint8_t *out, size_t out_len, size_t *place);
+
+/* Judges a recipe: what acpi_build would answer with room for the table. Refuses 1 to 8; place gets the table's length. */
+uint32_t acpi_check(const uint8_t *recipe, size_t recipe_len, size_t *place);
+
+/* Writes the recipe of a table, in its normal form, into out. Refuses 20 to 27 and 29 to 31; place gets the recipe's length. */
+uint32_t acpi_read_out(const uint8_t *table, size_t table_len, uint8_t *out, size_t out_len, size_t *place);
+
+/* Judges a table by the rows that the mask has. Refuses 20 to 27; place gets the number of records. */
+uint32_t acpi_accept(const uint8_t *table, size_t table_len, uint32_t mask, size_t *place);
+
+/* Record number n, counted from 0, as numbers; those that do not fit are left out. Refuses 20 to 28; place gets the number of records. */
+uint32_t acpi_read(const uint8_t *table, size_t table_len, uint32_t mask, size_t n, uint64_t *answer, size_t answer_len, size_t *place);
+
+/* Where the first record of an accepted table starts. */
+size_t acpi_first_place(const uint8_t *table, size_t table_len);
+
+/* The record at a place of an accepted table, as numbers; the next one starts behind it. So a table is listed that was judged once. */
+void acpi_record_at(const uint8_t *table, size_t table_len, uint32_t mask, size_t place, uint64_t *answer, size_t answer_len);
+
+#ifdef __cplusplus
+}
+#endif
+
+#endif

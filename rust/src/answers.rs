@@ -1,0 +1,186 @@
+//! What the calls answer.
+use crate::srat::Handle;
+use core::fmt;
+
+/// A refusal, as document 01 numbers it.
+#[derive(Clone, Copy, Debug, PartialEq, Eq)]
+pub struct Refusal {
+    pub number: u32,
+    /// A byte of the recipe or of the table, the length needed, or the number of records.
+    pub place: usize,
+}
+
+impl Refusal {
+    pub fn name(&self) -> &'static str {
+        match self.number {
+            1 => "NO HEAD",
+            2 => "BAD KIND",
+            3 => "CUT",
+            4 => "MISPLACED",
+            5 => "BAD FIELD",
+            6 | 27 => "BAD REF",
+            7 => "FULL NODE",
+            8 => "TOO LONG",
+            9 | 31 => "NO ROOM",
+            20 => "SHORT",
+            21 => "BAD SIGN",
+            22 => "BAD LENGTH",
+            23 => "BAD SUM",
+            24 => "BAD FRONT",
+            25 => "BAD FRAME",
+            26 => "BAD RECORD",
+            28 => "NO RECORD",
+            29 => "UNKNOWN",
+            30 => "REVISION",
+            _ => "unnamed",
+        }
+    }
+}
+
+impl fmt::Display for Refusal {
+    fn fmt(&self, f: &mut fmt::Formatter<'_>) -> fmt::Result {
+        let (number, name, place) = (self.number, self.name(), self.place);
+        match number {
+            1..=8 => write!(f, "{number} {name} at byte {place} of the recipe"),
+            9 | 31 => write!(f, "{number} {name}, {place} bytes needed"),
+            28 => write!(f, "{number} {name}, the table has {place}"),
+            _ => write!(f, "{number} {name} at byte {place} of the table"),
+        }
+    }
+}
+
+impl core::error::Error for Refusal {}
+
+/// A record of a table.
+#[derive(Clone, Copy, Debug, PartialEq)]
+pub struct Record<'a> {
+    /// How many records the table has.
+    pub count: usize,
+    /// The type in its frame.
+    pub kind: u16,
+    pub place: usize,
+    pub length: usize,
+    pub node: Node,
+    /// The list inside the record (a processor's resources, a matrix's values and cells, a side cache's handles), an unknown
+    /// record whole, else empty.
+    pub part: &'a [u8],
+}
+
+/// The fields of a record, by its row. References are places in the table.
+#[derive(Clone, Copy, Debug, PartialEq)]
+pub enum Node {
+    Processor {
+        flags: u32,
+        parent: u32,
+        acpi_processor_id: u32,
+        resources: u32,
+    },
+    Cache {
+        flags: u32,
+        next_level: u32,
+        size: u32,
+        set_count: u32,
+        associativity: u8,
+        attributes: u8,
+        line_size: u16,
+        id: u32,
+    },
+    Memory {
+        proximity_domain: u32,
+        base_address: u64,
+        length: u64,
+        flags: u32,
+    },
+    Initiator {
+        proximity_domain: u32,
+        handle: Handle,
+        flags: u32,
+    },
+    Rintc {
+        acpi_processor_uid: [u8; 4],
+        flags: u32,
+        clock_domain: u32,
+    },
+    Domain {
+        initiator: u32,
+        memory: u32,
+    },
+    Matrix {
+        flags: u8,
+        data_type: u8,
+        min_transfer_size: u8,
+        initiators: u32,
+        targets: u32,
+        entry_base_unit: u64,
+    },
+    Side {
+        proximity_domain: u32,
+        cache_size: u64,
+        attributes: u32,
+        smbios_handles: u16,
+    },
+    /// No known row fits.
+    Unknown,
+}
+
+/// So many numbers are enough for every record, and the fields begin at the sixth.
+pub(crate) const ANSWER: usize = 14;
+
+const FIELDS: usize = 6;
+
+/// A record's handle, by its type.
+fn initiator(v: &[u64]) -> Node {
+    let proximity_domain = v[1] as u32;
+    if v[0] == 0 {
+        let handle = Handle::Acpi { hid: v[2].to_le_bytes(), uid: (v[3] as u32).to_le_bytes() };
+        return Node::Initiator { proximity_domain, handle, flags: v[4] as u32 };
+    }
+    let handle = Handle::Pci { segment: v[2] as u16, bus: v[3] as u8, device: v[4] as u8, function: v[5] as u8 };
+    Node::Initiator { proximity_domain, handle, flags: v[6] as u32 }
+}
+
+/// The node of a row's number and fields: each has the width of its field, so no cast loses anything.
+fn node(row: u64, v: &[u64]) -> Node {
+    match row {
+        0 => Node::Processor { flags: v[0] as u32, parent: v[1] as u32, acpi_processor_id: v[2] as u32, resources: v[3] as u32 },
+        1 => Node::Cache {
+            flags: v[0] as u32,
+            next_level: v[1] as u32,
+            size: v[2] as u32,
+            set_count: v[3] as u32,
+            associativity: v[4] as u8,
+            attributes: v[5] as u8,
+            line_size: v[6] as u16,
+            id: v[7] as u32,
+        },
+        2 => Node::Memory { proximity_domain: v[0] as u32, base_address: v[1], length: v[2], flags: v[3] as u32 },
+        3 => initiator(v),
+        4 => Node::Rintc { acpi_processor_uid: (v[0] as u32).to_le_bytes(), flags: v[1] as u32, clock_domain: v[2] as u32 },
+        5 => Node::Domain { initiator: v[0] as u32, memory: v[1] as u32 },
+        6 => Node::Matrix {
+            flags: v[0] as u8,
+            data_type: v[1] as u8,
+            min_transfer_size: v[2] as u8,
+            initiators: v[3] as u32,
+            targets: v[4] as u32,
+            entry_base_unit: v[5],
+        },
+        7 => Node::Side { proximity_domain: v[0] as u32, cache_size: v[1], attributes: v[2] as u32, smbios_handles: v[3] as u16 },
+        _ => Node::Unknown,
+    }
+}
+
+impl<'a> Record<'a> {
+    /// The record that the numbers of an answer stand for.
+    pub(crate) fn of(table: &'a [u8], count: usize, answer: &[u64; ANSWER]) -> Self {
+        let (at, length) = (answer[4] as usize, answer[5] as usize);
+        Record {
+            count,
+            kind: answer[0] as u16,
+            place: answer[1] as usize,
+            length: answer[2] as usize,
+            node: node(answer[3], &answer[FIELDS..]),
+            part: &table[at..at + length],
+        }
+    }
+}
