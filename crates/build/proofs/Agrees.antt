@@ -13,6 +13,7 @@ use Rattle.format.specs.Table.{pptt, limit}
 use Rattle.format.specs.Form.{matrix, layout}
 use Rattle.format.specs.Node.{Node, node, Entry, bytes, sizes, starts, atOrdinal, placeOf}
 use Rattle.format.specs.Build.{records}
+use Rattle.laws.proofs.Finds.{never}
 use Rattle.laws.proofs.Lays.{both-true}
 use Rattle.laws.proofs.Shapes.{Plain, plain-matrix}
 use Rattle.laws.proofs.Good.{Good}
@@ -21,16 +22,13 @@ use Rattle.build.proofs.Walks.{place-among, length-starts}
 
 -- ---- a good reference is an ordinal of a node
 
-pub none-named : {A : Type 0} → false ≡ true → A
-none-named e = absurd (let z : _≡_ {A = ℕ} 0 1 = cc in omega arith)
-
 below-at : (m k : ℕ) (x y z : Bool) → eqb (suc m) k ≡ x → (z ≡ true → k ≤ m) → pick x y z ≡ true → k ≤ suc m
 below-at m k true y z q ih h = let d : suc m ≡ k = eqb-true (suc m) k q in omega arith
 below-at m k false y z q ih h = let i = ih h in omega arith
 
 pub named-below : (es : List Entry) (k t : ℕ) → atOrdinal es k t ≡ true → k ≤ length es
 unfolding atOrdinal
-named-below [] k t h = none-named h
+named-below [] k t h = never h
 named-below (e ∷ es) k t h = below-at (length es) k (eqb (suc (length es)) k) (eqb (e .type) t) (atOrdinal es k t) refl (named-below es k t) h
 
 -- ---- two ways to write references that agree on the good ones

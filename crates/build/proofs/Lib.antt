@@ -7,3 +7,4 @@ pub mod Turns
 pub mod Whole
 pub mod Steps
 pub mod Answers
+pub mod Unique

@@ -19,6 +19,7 @@ use Rattle.laws.proofs.Lays.{Fit}
 use Rattle.laws.proofs.Heads.{length-records, length-header}
 use Rattle.laws.proofs.Good.{Good}
 use Rattle.laws.proofs.Grows.{passed, kindHome, grows}
+use Rattle.laws.proofs.Builds.{body-fits, kind-home}
 use Rattle.build.specs.declared.State.{State}
 use Rattle.build.specs.declared.Change.{Change}
 use Rattle.build.specs.Write.{changeOf, wrote}
@@ -27,7 +28,7 @@ use Rattle.build.proofs.Numbers.{front-small, front-long}
 use Rattle.build.proofs.Headers.{header-any, finished}
 use Rattle.build.proofs.Sums.{part-laid, sum-front, sum-moves}
 use Rattle.build.proofs.Turns.{Laid, Turned, turned}
-use Rattle.build.proofs.Whole.{Turn, turn, turn-as, run-keeps, run-end, body-fits, kind-home, from-head}
+use Rattle.build.proofs.Whole.{Turn, turn, turn-as, run-keeps, run-end, from-head}
 
 pub length-front : (t : Table) (r : List ℕ) (n : ℕ) → 28 ≤ length r → length (frontOf t r n) ≡ front t
 length-front t r n h = length-header (headIn t r) 0 n 0 (length-part r 2 26 (omega arith))

@@ -16,9 +16,10 @@ use Rattle.format.specs.Table.{Table, pptt, srat, hmat, front, limit}
 use Rattle.format.specs.Form.{Form, processor, cache, memory, acpi, pci, rintc, domain, matrix, side, size, layout}
 use Rattle.format.specs.Node.{Node, node, bytes, sizes, starts, atOrdinal, placeOf}
 use Rattle.format.specs.Kind.{Kind, Processor, Resource, Cache, Memory, Acpi, Pci, Rintc, Domain, Matrix, Initiator, Target, Cell, Side, Handle, body}
-use Rattle.format.specs.Recipe.{Newest, aProcessor, aMatrix, aSide, other, newestAs, newest, resource, handle, setting, step, added}
+use Rattle.format.specs.Recipe.{Newest, newest, resource, handle, setting, step, added}
 use Rattle.format.specs.Build.{records}
 use Rattle.laws.specs.Settings.{Setting, initiator, target, cell, spot, setTo}
+use Rattle.laws.proofs.Finds.{never}
 use Rattle.laws.proofs.Bytes.{length-le, length-over, length-part, over-fits, over-all, over-next}
 use Rattle.laws.proofs.Over.{over-right, over-left, over-within}
 use Rattle.laws.proofs.Lays.{Fit, fit-length, both-true}
@@ -28,7 +29,7 @@ use Rattle.laws.proofs.Fits.{replicate-snoc}
 use Rattle.laws.proofs.Shapes.{Plain, plain-matrix}
 use Rattle.laws.proofs.Heads.{length-records}
 use Rattle.laws.proofs.Good.{Good}
-use Rattle.laws.proofs.Grows.{Passed, kindHome}
+use Rattle.laws.proofs.Grows.{View, seesProcessor, seesMatrix, seesSide, seesOther, view, Passed, kindHome}
 use Rattle.pptt.specs.Processor as processors
 use Rattle.hmat.specs.Hmat as sides
 use Rattle.hmat.specs.Settings as matrices
@@ -37,7 +38,7 @@ use Rattle.build.specs.declared.State.{State}
 use Rattle.build.specs.declared.Change.{Change}
 use Rattle.build.specs.Write.{placeIn, appended, unsetMatrix, making, growing, settingAt, sets, setting as setting-of, changeOf, wrote}
 use Rattle.build.specs.Held.{Counts}
-use Rattle.build.proofs.Agrees.{none-named, lay-plain, pptt-agrees, named-place}
+use Rattle.build.proofs.Agrees.{lay-plain, pptt-agrees, named-place}
 
 -- ---- before and after
 
@@ -219,27 +220,6 @@ module _ (g : ℕ → ℕ) (n : ℕ) (us : List ℕ) where
 
 -- ---- resources and handles
 
-pub data View : List Node → Newest → Type 0 where
-  seesProcessor : {n : ℕ} {us : List ℕ} {ns : List Node} → View (node (processor n) us ∷ ns) (aProcessor n us ns)
-  seesMatrix : {i t : ℕ} {us : List ℕ} {ns : List Node} → View (node (matrix i t) us ∷ ns) (aMatrix i t us ns)
-  seesSide : {n : ℕ} {us : List ℕ} {ns : List Node} → View (node (side n) us ∷ ns) (aSide n us ns)
-  seesOther : {ns : List Node} → View ns other
-
-view-as : (f : Form) (us : List ℕ) (ns : List Node) → View (node f us ∷ ns) (newestAs f us ns)
-view-as (processor n) us ns = seesProcessor
-view-as cache us ns = seesOther
-view-as memory us ns = seesOther
-view-as acpi us ns = seesOther
-view-as pci us ns = seesOther
-view-as rintc us ns = seesOther
-view-as domain us ns = seesOther
-view-as (matrix i t) us ns = seesMatrix
-view-as (side n) us ns = seesSide
-
-pub view : (ns : List Node) → View ns (newest ns)
-view [] = seesOther
-view (n ∷ ns) = view-as (n .form) (n .values) ns
-
 count-processor : (n : ℕ) → arities (layout (processor n)) ≡ 3 + n
 unfolding layout
 count-processor n = rw (arities-one n (to 1) refl) (omega arith)
@@ -361,28 +341,28 @@ module _ (xs fs : List ℕ) (s : State) (out : List ℕ) where
   resource-turned vs f (seesProcessor {n} {us} {ns}) p e r h =
       let a = alone vs (fit-length (body Resource) vs f) in
       rw a (resource-one xs fs s out n (at vs 0) us ns h (omega (arith, leb-false 58 n e)) (rw a at r))
-  resource-turned vs f seesMatrix p e r h = none-named p
-  resource-turned vs f seesSide p e r h = none-named p
-  resource-turned vs f seesOther p e r h = none-named p
+  resource-turned vs f seesMatrix p e r h = never p
+  resource-turned vs f seesSide p e r h = never p
+  resource-turned vs f seesOther p e r h = never p
 
   handle-turned : (vs : List ℕ) → Fit (body Handle) vs → {ns : List Node} {x : Newest} → View ns x → handle vs x .placed ≡ true → handle vs x .full ≡ false → Laid xs fs hmat ns s out
       → Turned xs fs hmat ns (handle vs x .nodes) (growing s 32 2) (sides.grown out (s .latest .place) (s .latest .count) (at vs 0))
   unfolding handle body
-  handle-turned vs f seesProcessor p e h = none-named p
-  handle-turned vs f seesMatrix p e h = none-named p
+  handle-turned vs f seesProcessor p e h = never p
+  handle-turned vs f seesMatrix p e h = never p
   handle-turned vs f (seesSide {n} {us} {ns}) p e h =
       let a = alone vs (fit-length (body Handle) vs f) in
       rw a (handle-one xs fs s out n (at vs 0) us ns h (omega (arith, leb-false 65535 n e)))
-  handle-turned vs f seesOther p e h = none-named p
+  handle-turned vs f seesOther p e h = never p
 
   setting-turned : (tests : ℕ → ℕ → List Bool) (x : Setting) → ((i t : ℕ) → all (tests i t) ≡ true → matrices.Inside i t x) → {ns : List Node} {y : Newest} → View ns y
       → setting tests (λ i t. spot i t x) (setTo x) y .placed ≡ true → all (setting tests (λ i t. spot i t x) (setTo x) y .ranges) ≡ true → Laid xs fs hmat ns s out
       → Turned xs fs hmat ns (setting tests (λ i t. spot i t x) (setTo x) y .nodes) (setting-of s x) (sets s x out)
   unfolding setting
-  setting-turned tests x inn seesProcessor p r h = none-named p
+  setting-turned tests x inn seesProcessor p r h = never p
   setting-turned tests x inn (seesMatrix {i} {t} {us} {ns}) p r h = setting-one i t us ns x h (inn i t r)
-  setting-turned tests x inn seesSide p r h = none-named p
-  setting-turned tests x inn seesOther p r h = none-named p
+  setting-turned tests x inn seesSide p r h = never p
+  setting-turned tests x inn seesOther p r h = never p
 
 -- ---- every kind
 

@@ -1,108 +1,47 @@
 -- The whole recipe: from a head to its meaning, a turn of the pass for the record at a place, and the table at the end.
-use mathlib.Core.Path.{_≡_, refl, _∙_}
-use Prim.Native.Nat.{ℕ, zero, suc, _+_, _-_, _*_, _≤_, _<_}
+use mathlib.Core.Path.{_≡_, refl}
+use Prim.Native.Nat.{ℕ, suc, _+_, _-_, _*_, _≤_, _<_}
 use mathlib.Core.List.{List, [], _∷_}
 use mathlib.Core.Bool.{Bool, true, false, not}
 use mathlib.Core.Option.{Option, none, some}
 use native.Mathlib.Omega.{arith}
-use native.Mathlib.Nat.{add-zero}
 use lib.ListN.{length, drop, getD, length-drop}
 use lib.Seq.{drop-cons, drop-drop}
 use lib.Dec.{eqb, ltb}
 use borrow.Author.Tests.{ltb-false}
-use Rattle.format.specs.Bytes.{pick, Bytes, at, part, Answer, refused, given, firstOf, andThen, orRefused}
-use Rattle.format.specs.Layout.{Item, fix, fld, two, to, orNone, width, fields, fixedOk}
-use Rattle.format.specs.Table.{Table, pptt, srat, hmat, Head, headOf}
+use Rattle.format.specs.Bytes.{pick, at, part, Answer, refused, given, firstOf, andThen, orRefused}
+use Rattle.format.specs.Layout.{width, fields}
+use Rattle.format.specs.Table.{Head, headOf}
 use Rattle.format.specs.Node.{Node, sizes}
-use Rattle.format.specs.Kind.{Kind, Processor, Resource, Cache, Memory, Acpi, Pci, Rintc, Domain, Matrix, Initiator, Target, Cell, Side, Handle, kindNumber, kinds, kindOf, body}
+use Rattle.format.specs.Kind.{Kind, Processor, Resource, Cache, Memory, Acpi, Pci, Rintc, Domain, Matrix, Initiator, Target, Cell, Side, Handle, kindOf, body}
 use Rattle.format.specs.Recipe.{Calls, done, badKind, cutOff, called, cutAs, skip, cut, resource, handle, setting, step, added, fault, Meaning, means, since, run, tableOf, headed, meaning}
 use Rattle.format.specs.Build.{table}
-use Rattle.laws.proofs.Finds.{All, found-in, none-first, then-given, unless-given}
-use Rattle.laws.proofs.Lays.{Fit, Sane, fields-fit}
-use Rattle.laws.proofs.Grows.{passed, kindHome}
-use Rattle.build.proofs.Agrees.{none-named}
-use Rattle.build.proofs.Turns.{View, seesProcessor, seesMatrix, seesSide, seesOther, view}
-
--- ---- bodies fit
-
--- no item is fixed, and none holds two fields
-simple : List Item → Bool
-simple [] = true
-simple (fix w v ∷ is) = false
-simple (fld w ∷ is) = simple is
-simple (two w k ∷ is) = false
-simple (to t ∷ is) = simple is
-simple (orNone t ∷ is) = simple is
-
-simple-sane : (is : List Item) → simple is ≡ true → Sane is
-unfolding simple
-simple-sane [] h = tt
-simple-sane (fix w v ∷ is) h = none-named h
-simple-sane (fld w ∷ is) h = (tt, simple-sane is h)
-simple-sane (two w k ∷ is) h = none-named h
-simple-sane (to t ∷ is) h = (tt, simple-sane is h)
-simple-sane (orNone t ∷ is) h = (tt, simple-sane is h)
-
-simple-fixed : (is : List Item) (bs : List ℕ) → simple is ≡ true → fixedOk is bs ≡ true
-unfolding simple fixedOk
-simple-fixed [] bs h = refl
-simple-fixed (fix w v ∷ is) bs h = none-named h
-simple-fixed (fld w ∷ is) bs h = simple-fixed is (drop w bs) h
-simple-fixed (two w k ∷ is) bs h = none-named h
-simple-fixed (to t ∷ is) bs h = simple-fixed is (drop 4 bs) h
-simple-fixed (orNone t ∷ is) bs h = simple-fixed is (drop 4 bs) h
-
-simple-body : (k : Kind) → simple (body k) ≡ true
-unfolding simple body
-simple-body Processor = refl
-simple-body Resource = refl
-simple-body Cache = refl
-simple-body Memory = refl
-simple-body Acpi = refl
-simple-body Pci = refl
-simple-body Rintc = refl
-simple-body Domain = refl
-simple-body Matrix = refl
-simple-body Initiator = refl
-simple-body Target = refl
-simple-body Cell = refl
-simple-body Side = refl
-simple-body Handle = refl
-
-pub body-fits : (k : Kind) (bs : List ℕ) → Bytes bs → width (body k) ≤ length bs → Fit (body k) (fields (body k) bs)
-body-fits k bs h l = fields-fit (body k) bs (simple-sane (body k) (simple-body k)) h l (simple-fixed (body k) bs (simple-body k))
-
-all-home : (t : Table) → All (λ k. kindHome k ≡ t) (kinds t)
-all-home pptt = (refl, (refl, (refl, tt)))
-all-home srat = (refl, (refl, (refl, (refl, tt))))
-all-home hmat = (refl, (refl, (refl, (refl, (refl, (refl, (refl, tt)))))))
-
-pub kind-home : (t : Table) (b : ℕ) (k : Kind) → kindOf t b ≡ some k → kindHome k ≡ t
-unfolding kindOf
-kind-home t b k e = found-in (λ k. kindHome k ≡ t) (λ k. eqb b (kindNumber k)) (kinds t) k (all-home t) e
+use Rattle.laws.proofs.Finds.{never, none-first, then-given, unless-given}
+use Rattle.laws.proofs.Grows.{View, seesProcessor, seesMatrix, seesSide, seesOther, view, passed}
+use Rattle.laws.proofs.Calls.{cut-skip}
 
 -- ---- the nodes only grow
 
 resource-grows : (vs : List ℕ) {ns : List Node} {x : _} → View ns x → resource vs x .placed ≡ true → sizes ns ≤ sizes (resource vs x .nodes)
 unfolding resource sizes
 resource-grows vs seesProcessor p = omega arith
-resource-grows vs seesMatrix p = none-named p
-resource-grows vs seesSide p = none-named p
-resource-grows vs seesOther p = none-named p
+resource-grows vs seesMatrix p = never p
+resource-grows vs seesSide p = never p
+resource-grows vs seesOther p = never p
 
 handle-grows : (vs : List ℕ) {ns : List Node} {x : _} → View ns x → handle vs x .placed ≡ true → sizes ns ≤ sizes (handle vs x .nodes)
 unfolding handle sizes
-handle-grows vs seesProcessor p = none-named p
-handle-grows vs seesMatrix p = none-named p
+handle-grows vs seesProcessor p = never p
+handle-grows vs seesMatrix p = never p
 handle-grows vs seesSide p = omega arith
-handle-grows vs seesOther p = none-named p
+handle-grows vs seesOther p = never p
 
 setting-grows : (tests : ℕ → ℕ → List Bool) (field : ℕ → ℕ → ℕ) (v : ℕ) {ns : List Node} {x : _} → View ns x → setting tests field v x .placed ≡ true → sizes ns ≤ sizes (setting tests field v x .nodes)
 unfolding setting sizes
-setting-grows tests field v seesProcessor p = none-named p
+setting-grows tests field v seesProcessor p = never p
 setting-grows tests field v seesMatrix p = omega arith
-setting-grows tests field v seesSide p = none-named p
-setting-grows tests field v seesOther p = none-named p
+setting-grows tests field v seesSide p = never p
+setting-grows tests field v seesOther p = never p
 
 sizes-grow : (k : Kind) (vs : List ℕ) (ns : List Node) → step k vs ns .placed ≡ true → sizes ns ≤ sizes (added k vs ns)
 unfolding step sizes
@@ -123,8 +62,8 @@ sizes-grow Handle vs ns p = handle-grows vs (view ns) p
 
 -- ---- running
 
-never : {A : Type 0} {n p : ℕ} {m : Meaning} → _≡_ {A = Answer Meaning} (refused n p) (given m) → A
-never e = absurd (let z : _≡_ {A = ℕ} 0 1 = cc in omega arith)
+not-given : {A : Type 0} {n p : ℕ} {m : Meaning} → _≡_ {A = Answer Meaning} (refused n p) (given m) → A
+not-given e = absurd (let z : _≡_ {A = ℕ} 0 1 = cc in omega arith)
 
 run-turn : (h : Head) (q : ℕ) (ns : List Node) (p : ℕ) (k : Kind) (vs : List ℕ) (rest : Calls) (m : Meaning) → run h q ns (called p k vs rest) ≡ given m
     → (fault (h .table) ns k vs ≡ 0) × (run h (since ns (added k vs ns) p q) (added k vs ns) rest ≡ given m)
@@ -139,20 +78,14 @@ run-end h q ns m e = cc
 pub run-keeps : (h : Head) (q : ℕ) (ns : List Node) (cs : Calls) (m : Meaning) → run h q ns cs ≡ given m → (h ≡ m .head) × (sizes ns ≤ sizes (m .nodes))
 unfolding run
 run-keeps h q ns done m e = let z = run-end h q ns m e in rw (← z) (refl, omega arith)
-run-keeps h q ns (badKind p) m e = never e
-run-keeps h q ns (cutOff p k) m e = never e
+run-keeps h q ns (badKind p) m e = not-given e
+run-keeps h q ns (cutOff p k) m e = not-given e
 run-keeps h q ns (called p k vs rest) m e =
     let (z, r) = run-turn h q ns p k vs rest m e in
     let (a, b) = run-keeps h (since ns (added k vs ns) p q) (added k vs ns) rest m r in
     (a, omega (arith, sizes-grow k vs ns (passed (h .table) ns k vs z .place)))
 
 -- ---- the record at a place
-
-cut-skip : (t : Table) (n p : ℕ) (bs : List ℕ) → cut t n p bs ≡ cut t 0 (p + n) (drop n bs)
-unfolding cut
-cut-skip t zero p bs = rw add-zero
-cut-skip t (suc n) p [] = refl
-cut-skip t (suc n) p (b ∷ bs) = let e : suc p + n ≡ p + suc n = omega arith in cut-skip t n (suc p) bs ∙ rw e
 
 -- the record is whole, is not refused, and the rest leads on
 pub record Turn (h : Head) (r : List ℕ) (ns : List Node) (p : ℕ) (k : Kind) (m : Meaning) : Type 0 where
@@ -166,7 +99,7 @@ module _ (h : Head) (q : ℕ) (r : List ℕ) (ns : List Node) (p : ℕ) (m : Mea
       → run h q ns (pick x (cutOff p k) (called p k (fields (body k) (drop (suc p) r)) (cut (h .table) (width (body k)) (suc p) (drop (suc p) r)))) ≡ given m
       → Turn h r ns p k m
   unfolding run
-  turn-at k true l e f = never f
+  turn-at k true l e f = not-given f
   turn-at k false l e f =
       let d : length (drop (suc p) r) ≡ length r - suc p = length-drop (suc p) r in
       let w : width (body k) ≤ length (drop (suc p) r) = ltb-false (length (drop (suc p) r)) (width (body k)) e in
@@ -185,7 +118,7 @@ module _ (h : Head) (q : ℕ) (r : List ℕ) (ns : List Node) (p : ℕ) (m : Mea
 
   as-kind : (o : Option Kind) → p < length r → run h q ns (cutAs o (drop (suc p) r) p (cut (h .table) (skip o) (suc p) (drop (suc p) r))) ≡ given m → (k : Kind) × (o ≡ some k) × Turn h r ns p k m
   unfolding cutAs run
-  as-kind none l e = never e
+  as-kind none l e = not-given e
   as-kind (some k) l e = (k, refl, turn-at k (ltb (length (drop (suc p) r)) (width (body k))) l refl e)
 
   pub turn : p < length r → run h q ns (cut (h .table) 0 p (drop p r)) ≡ given m → (k : Kind) × (kindOf (h .table) (getD r p 0) ≡ some k) × Turn h r ns p k m

@@ -10,15 +10,8 @@ use Rattle.format.specs.Bytes.{pick, both, all, firstOf, at, same, sum}
 use Rattle.format.specs.Layout.{fixedOk}
 use Rattle.format.specs.Table.{Table, tail, front, limit}
 use Rattle.format.specs.Read.{lengthIn, own, headFault}
+use Rattle.laws.proofs.Tests.{both-false}
 use Rattle.laws.proofs.Bytes.{drop-turn}
-
-both-false : (b : Bool) → both b false ≡ false
-both-false true = refl
-both-false false = refl
-
-pub both-right : (b : Bool) → both b true ≡ b
-both-right true = refl
-both-right false = refl
 
 pub same-length : (a b : List ℕ) → (length a ≡ length b → ⊥) → same a b ≡ false
 unfolding same

@@ -1,14 +1,13 @@
--- What an answer stands for determines the answer: it can be read back, so two answers that meet one contract are the same.
-use mathlib.Core.Path.{_≡_, refl, sym, ap, _∙_}
+-- Two answers that meet one contract are equal: what an answer stands for names the answer.
+use mathlib.Core.Path.{_≡_, refl, ap}
 use Prim.Native.Nat.{ℕ}
 use mathlib.Core.Option.{Option, none, some}
 use lib.Dec.{eqb}
 use Rattle.format.specs.Bytes.{pick, Answer, refused, given}
-use Rattle.format.specs.Table.{pptt, srat, hmat}
-use Rattle.format.specs.Table as format
-use Rattle.header.specs.declared.Table.{Table}
-use Rattle.header.specs.declared.Table.the-variants.{Pptt, Srat, Hmat}
-use Rattle.header.specs.Header.{meant}
+use Rattle.format.specs.Table.{Table}
+use Rattle.laws.proofs.Sole.{sole-meant}
+use Rattle.header.specs.Header.{tableNamed}
+use Rattle.header.proofs.Unique.{table-back}
 use Rattle.frames.specs.declared.Refusal.{Refusal}
 use Rattle.frames.specs.declared.Refusal.the-variants.{Short, BadSign, BadLength, BadSum, BadFront, BadFrame, BadRecord, BadRef, NoRecord}
 use Rattle.frames.specs.declared.Spelled.{Spelled}
@@ -40,38 +39,26 @@ refusal-back (BadRecord p) = refl
 refusal-back (BadRef p) = refl
 refusal-back (NoRecord n) = refl
 
--- ---- tables
-
-abbrev tableOf : format.Table → Table
-tableOf pptt = Pptt
-tableOf srat = Srat
-tableOf hmat = Hmat
-
-table-back : (t : Table) → tableOf (meant t) ≡ t
-table-back Pptt = refl
-table-back Srat = refl
-table-back Hmat = refl
-
-abbrev spelledOf : Option format.Table → Spelled
+abbrev spelledOf : Option Table → Spelled
 spelledOf none = spelled.Other
-spelledOf (some t) = spelled.Table (tableOf t)
+spelledOf (some t) = spelled.Table (tableNamed t)
 
 spelled-back : (s : Spelled) → spelledOf (spelledAs s) ≡ s
 spelled-back (spelled.Table t) = ap spelled.Table (table-back t)
 spelled-back spelled.Other = refl
 
-abbrev judgedOf : Answer format.Table → Judged
+abbrev judgedOf : Answer Table → Judged
 judgedOf (refused k p) = judged.Refused (refusalOf k p)
-judgedOf (given t) = judged.Table (tableOf t)
+judgedOf (given t) = judged.Table (tableNamed t)
 
 judged-back : (j : Judged) → judgedOf (judgedAs j) ≡ j
 judged-back (judged.Table t) = ap judged.Table (table-back t)
 judged-back (judged.Refused r) = ap judged.Refused (refusal-back r)
 
--- two answers of `signed` on one call are the same
-pub one-signature : (x y : Spelled) → spelledAs x ≡ spelledAs y → x ≡ y
-one-signature x y e = sym (spelled-back x) ∙ ap spelledOf e ∙ spelled-back y
+-- `signed`
+pub one-signature : (a b : Spelled) (t : Option Table) → spelledAs a ≡ t → spelledAs b ≡ t → a ≡ b
+one-signature = sole-meant spelledAs spelledOf spelled-back
 
--- two answers of `judge_head` on one call are the same
-pub one-header : (x y : Judged) → judgedAs x ≡ judgedAs y → x ≡ y
-one-header x y e = sym (judged-back x) ∙ ap judgedOf e ∙ judged-back y
+-- `judge_head`
+pub one-header : (a b : Judged) (t : Answer Table) → judgedAs a ≡ t → judgedAs b ≡ t → a ≡ b
+one-header = sole-meant judgedAs judgedOf judged-back

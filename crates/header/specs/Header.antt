@@ -10,12 +10,17 @@ use Rattle.header.specs.declared.Table.{Table}
 use Rattle.header.specs.declared.Table.the-variants.{Pptt, Srat, Hmat}
 use Rattle.header.specs.declared.TableHeader.{TableHeader}
 
--- a table as the format has it
 -- the table that a variant stands for
 abbrev pub meant : Table → format.Table
 meant Pptt = pptt
 meant Srat = srat
 meant Hmat = hmat
+
+-- the variant that stands for a table
+abbrev pub tableNamed : format.Table → Table
+tableNamed pptt = Pptt
+tableNamed srat = Srat
+tableNamed hmat = Hmat
 
 -- the 26 bytes that a head gives
 unfoldable pub identity : TableHeader → List ℕ

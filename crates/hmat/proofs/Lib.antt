@@ -3,3 +3,4 @@ pub mod Flags
 pub mod Matrices
 pub mod Sides
 pub mod Shows
+pub mod Unique

@@ -1,15 +1,15 @@
 -- A recipe that is not refused means good nodes, by induction over its records; so its table is read out as what it means.
 use mathlib.Core.Path.{_≡_, refl}
-use Prim.Native.Nat.{ℕ, zero, suc, _+_, _≤_, _<_}
-use mathlib.Core.List.{List, [], _∷_, _++_}
+use Prim.Native.Nat.{ℕ, zero, suc, _+_, _≤_}
+use mathlib.Core.List.{List, [], _∷_}
 use mathlib.Core.Bool.{Bool, true, false, not}
 use mathlib.Core.Option.{Option, none, some}
 use native.Mathlib.Omega.{arith}
-use lib.ListN.{length, take, drop, length-drop}
+use lib.ListN.{length, drop}
 use lib.Dec.{eqb, ltb}
 use borrow.Author.Tests.{ltb-false}
-use Rattle.format.specs.Bytes.{pick, both, firstOf, Bytes, at, part, Answer, refused, given, andThen, orRefused, unless}
-use Rattle.format.specs.Layout.{width, fieldsWith, fields, fixedOk}
+use Rattle.format.specs.Bytes.{pick, firstOf, Bytes, at, part, given, andThen, orRefused}
+use Rattle.format.specs.Layout.{width, fields, fixedOk}
 use Rattle.format.specs.Table.{Table, pptt, srat, hmat, front, limit, Head, headOf}
 use Rattle.format.specs.Node.{Node, sizes}
 use Rattle.format.specs.Kind.{Kind, Processor, Resource, Cache, Memory, Acpi, Pci, Rintc, Domain, Matrix, Initiator, Target, Cell, Side, Handle, kindNumber, kinds, kindOf, body}
@@ -17,11 +17,11 @@ use Rattle.format.specs.Recipe.{Calls, done, badKind, cutOff, called, cutAs, sk
 use Rattle.format.specs.Build.{tableFrom}
 use Rattle.format.specs.Out.{meaningOf}
 use Rattle.laws.proofs.Bytes.{bytes-drop, length-part}
-use Rattle.laws.proofs.Finds.{All, found-in, none-first, then-given, or-given, unless-given}
+use Rattle.laws.proofs.Finds.{All, found-in, none-first, then-given, unless-given}
 use Rattle.laws.proofs.Lays.{Fit, Sane, fields-fit}
 use Rattle.laws.proofs.Good.{Good}
 use Rattle.laws.proofs.Heads.{read-built}
-use Rattle.laws.proofs.Grows.{Passed, passed, kindHome, grows}
+use Rattle.laws.proofs.Grows.{passed, kindHome, grows}
 
 -- ---- a body holds nothing fixed, and no two fields in one
 
@@ -59,12 +59,15 @@ sane-body Cell = (tt, (tt, (tt, tt)))
 sane-body Side = (tt, (tt, (tt, tt)))
 sane-body Handle = (tt, tt)
 
+pub body-fits : (k : Kind) (bs : List ℕ) → Bytes bs → width (body k) ≤ length bs → Fit (body k) (fields (body k) bs)
+body-fits k bs h l = fields-fit (body k) bs (sane-body k) h l (fixed-body k bs)
+
 all-home : (t : Table) → All (λ k. kindHome k ≡ t) (kinds t)
 all-home pptt = (refl, (refl, (refl, tt)))
 all-home srat = (refl, (refl, (refl, (refl, tt))))
 all-home hmat = (refl, (refl, (refl, (refl, (refl, (refl, (refl, tt)))))))
 
-kind-home : (t : Table) (b : ℕ) (k : Kind) → kindOf t b ≡ some k → kindHome k ≡ t
+pub kind-home : (t : Table) (b : ℕ) (k : Kind) → kindOf t b ≡ some k → kindHome k ≡ t
 unfolding kindOf
 kind-home t b k e = found-in (λ k. kindHome k ≡ t) (λ k. eqb b (kindNumber k)) (kinds t) k (all-home t) e
 
@@ -83,7 +86,7 @@ whole-as t (some k) bs p rest s h w = long (ltb (length bs) (width (body k))) re
   where
     long : (x : Bool) → ltb (length bs) (width (body k)) ≡ x → Whole t (pick x (cutOff p k) (called p k (fields (body k) bs) rest))
     long true e = tt
-    long false e = (s k refl, fields-fit (body k) bs (sane-body k) h (ltb-false (length bs) (width (body k)) e) (fixed-body k bs), w)
+    long false e = (s k refl, body-fits k bs h (ltb-false (length bs) (width (body k)) e), w)
 
 cut-whole : (t : Table) (n p : ℕ) (bs : List ℕ) → Bytes bs → Whole t (cut t n p bs)
 unfolding cut

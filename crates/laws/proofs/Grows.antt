@@ -1,21 +1,21 @@
 -- A record that is not refused makes good nodes of good nodes: kind by kind, from the layouts.
 use mathlib.Core.Path.{_≡_, refl}
-use Prim.Native.Nat.{ℕ, zero, suc, _+_, _*_, _^_, _≤_, _<_}
+use Prim.Native.Nat.{ℕ, suc, _+_, _*_, _^_, _≤_, _<_}
 use mathlib.Core.List.{List, [], _∷_, _++_}
 use mathlib.Core.Bool.{Bool, true, false, not}
 use native.Mathlib.Omega.{arith}
-use lib.ListN.{length, take, drop, set, replicate, List·getD-append}
-use lib.Dec.{eqb, leb, ltb}
+use lib.ListN.{length, drop, set, replicate, List·getD-append}
+use lib.Dec.{leb, ltb}
 use borrow.Author.Tests.{leb-true, ltb-true, ltb-false, leb-false, not-false, le-ltb}
-use Rattle.format.specs.Bytes.{pick, both, all, firstOf, at}
-use Rattle.format.specs.Layout.{Item, fix, fld, two, to, orNone, arities, refsGood}
+use Rattle.format.specs.Bytes.{both, all, at}
+use Rattle.format.specs.Layout.{fld, to, arities, refsGood}
 use Rattle.format.specs.Table.{Table, pptt, srat, hmat, front, limit}
-use Rattle.format.specs.Form.{Form, processor, cache, memory, acpi, pci, rintc, domain, matrix, side, size, layout, ranges}
+use Rattle.format.specs.Form.{Form, processor, cache, memory, acpi, pci, rintc, domain, matrix, side, layout, ranges}
 use Rattle.format.specs.Node.{Node, node, Entry, sizes, starts, atOrdinal}
 use Rattle.format.specs.Kind.{Kind, Processor, Resource, Cache, Memory, Acpi, Pci, Rintc, Domain, Matrix, Initiator, Target, Cell, Side, Handle, body}
-use Rattle.format.specs.Recipe.{Step, Newest, aProcessor, aMatrix, aSide, other, newestAs, newest, resource, handle, setting, unset, step, added, fault}
+use Rattle.format.specs.Recipe.{Newest, aProcessor, aMatrix, aSide, other, newestAs, newest, resource, handle, setting, unset, step, added, fault}
 use Rattle.laws.proofs.Finds.{never, none-first}
-use Rattle.laws.proofs.Lays.{Fit, FitItem, both-true, fit-length}
+use Rattle.laws.proofs.Lays.{Fit, both-true, fit-length}
 use Rattle.laws.proofs.Shapes.{size-below, plain-fld, plain-matrix}
 use Rattle.laws.proofs.Fits.{second, third, fix-fit, zero-fit, fld-fit, wider, fit-append, good-append, replicate-snoc, plain-good, fit-same, set-front, set-behind}
 use Rattle.laws.proofs.Good.{GoodNode, Good}
@@ -44,7 +44,7 @@ no-fault t ns k vs p = rw (p .place, p .field, p .refs, p .room, le-ltb limit (f
 
 -- ---- the newest node
 
-data View : List Node → Newest → Type 0 where
+pub data View : List Node → Newest → Type 0 where
   seesProcessor : {n : ℕ} {us : List ℕ} {ns : List Node} → View (node (processor n) us ∷ ns) (aProcessor n us ns)
   seesMatrix : {i t : ℕ} {us : List ℕ} {ns : List Node} → View (node (matrix i t) us ∷ ns) (aMatrix i t us ns)
   seesSide : {n : ℕ} {us : List ℕ} {ns : List Node} → View (node (side n) us ∷ ns) (aSide n us ns)
@@ -61,7 +61,7 @@ view-as domain us ns = seesOther
 view-as (matrix i t) us ns = seesMatrix
 view-as (side n) us ns = seesSide
 
-view : (ns : List Node) → View ns (newest ns)
+pub view : (ns : List Node) → View ns (newest ns)
 view [] = seesOther
 view (n ∷ ns) = view-as (n .form) (n .values) ns
 

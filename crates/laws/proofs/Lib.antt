@@ -1,3 +1,4 @@
+pub mod Tests
 pub mod Bytes
 pub mod Over
 pub mod Finds
@@ -31,3 +32,5 @@ pub mod Judges
 pub mod Readings
 pub mod Outs
 pub mod Cases
+pub mod Sole
+pub mod Versions

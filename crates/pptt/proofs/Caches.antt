@@ -1,8 +1,7 @@
--- What is shown of a cache is what the format shows, and it is all of the cache.
+-- What is shown of a cache is what the format shows.
 use mathlib.Core.Path.{_≡_, ap}
 use Prim.Native.Nat.{ℕ}
 use mathlib.Core.List.{List}
-use Rattle.format.specs.Bytes.{at}
 use Rattle.format.specs.Layout.{asIs, fields}
 use Rattle.format.specs.Form.{cache, layout}
 use Rattle.format.specs.Node.{Node, nodeAt}
@@ -14,10 +13,3 @@ use Rattle.pptt.specs.Cache.{cacheShown, cacheNode}
 pub cache-shown : (n : CacheNode) (bs : List ℕ) → cacheNode n ≡ nodeAt asIs cache bs → cacheShown n ≡ shown cache (fields (layout cache) bs)
 unfolding nodeAt shown
 cache-shown n bs e = ap (λ (m : Node). m .values) e
-
-abbrev cacheOf : List ℕ → CacheNode
-cacheOf vs =
-    record { flags = at vs 0; «next_level» = record { 0 = at vs 1 }; size = at vs 2; «set_count» = at vs 3; associativity = at vs 4; attributes = at vs 5; «line_size» = at vs 6; id = at vs 7 }
-
-pub cache-same : (m n : CacheNode) → cacheShown m ≡ cacheShown n → m ≡ n
-cache-same m n e = ap cacheOf e

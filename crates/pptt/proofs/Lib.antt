@@ -1,2 +1,3 @@
 pub mod Processors
 pub mod Caches
+pub mod Unique

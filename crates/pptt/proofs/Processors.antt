@@ -1,5 +1,5 @@
 -- The record of a processor: its fixed part with its resources behind, how it grows, and what it shows.
-use mathlib.Core.Path.{_≡_, refl, sym, ap, _∙_}
+use mathlib.Core.Path.{_≡_, refl, sym, _∙_}
 use Prim.Native.Nat.{ℕ, zero, suc, _+_, _*_, _≤_, _<_}
 use mathlib.Core.List.{List, [], _∷_, _++_, append-assoc}
 use mathlib.Core.Bool.{Bool, true}
@@ -24,7 +24,7 @@ use Rattle.laws.proofs.Nodes.{length-bytes}
 use Rattle.laws.proofs.Offsets.{fields-at, fixed-at}
 use Rattle.pptt.specs.declared.CacheHandle.{CacheHandle}
 use Rattle.pptt.specs.declared.ProcessorNode.{ProcessorNode}
-use Rattle.pptt.specs.Processor.{processorShown, processorNode, processorOf, fixedPart, grown, processorIn, resourceIn}
+use Rattle.pptt.specs.Processor.{processorShown, processorNode, fixedPart, grown, processorIn, resourceIn}
 
 -- ---- writing
 
@@ -103,8 +103,3 @@ unfolding layout
 resource-field n i bs h =
     rw (fields-at asIs (layout (processor n)) bs 0)
     (getD-append-add (value (part bs 4 4) ∷ value (part bs 8 4) ∷ value (part bs 12 4) ∷ []) (fieldsAt asIs (replicate n (to 1)) bs 20) i 0 ∙ at-offset n 20 i bs h)
-
--- ---- what is shown is all of the node
-
-pub processor-same : (p q : ProcessorNode) → processorShown p ≡ processorShown q → p ≡ q
-processor-same p q e = ap (λ (vs : List ℕ). processorOf (at vs 0) (record { 0 = at vs 1 }) (at vs 2) (at vs 3)) e

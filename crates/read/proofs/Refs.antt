@@ -16,7 +16,7 @@ use Rattle.format.specs.Read.{sound, recordFault}
 use Rattle.laws.proofs.Offsets.{fields-at}
 use Rattle.laws.proofs.Shapes.{Plain, plain-fld, plain-matrix}
 use Rattle.laws.proofs.Fits.{plain-good}
-use Rattle.frames.proofs.Heads.{both-right}
+use Rattle.laws.proofs.Tests.{both-right}
 use Rattle.rows.specs.Rows.{soundAs}
 use Rattle.read.specs.Places.{linked, refsIn}
 

@@ -1,5 +1,5 @@
--- What an answer stands for determines the answer: it can be read back, so two answers that meet one contract are the same.
-use mathlib.Core.Path.{_≡_, refl, sym, ap, _∙_}
+-- Two answers that meet one contract are equal: what an answer stands for names the answer, and what is shown of a record is all of it.
+use mathlib.Core.Path.{_≡_, refl, ap}
 use Prim.Native.Nat.{ℕ}
 use mathlib.Core.List.{List}
 use mathlib.Core.Option.{Option, none, some}
@@ -7,6 +7,7 @@ use lib.Dec.{eqb}
 use Rattle.format.specs.Bytes.{pick, Answer, refused, given, at}
 use Rattle.format.specs.Row.{Row, processors, caches, memories, initiators, rintcs, domains, matrices, sides}
 use Rattle.format.specs.Read.{Reading, reading}
+use Rattle.laws.proofs.Sole.{sole-meant}
 use Rattle.srat.specs.declared.Handle.{Handle}
 use Rattle.srat.specs.declared.Handle.the-variants.{Acpi, Pci}
 use Rattle.frames.proofs.Unique.{refusalOf, refusal-back}
@@ -80,14 +81,14 @@ reply-back : (a : Reply) → replyOf (shown a) ≡ a
 reply-back (reply.Record count s) = ap (reply.Record count) (record-back count s)
 reply-back (reply.Refused r) = ap reply.Refused (refusal-back r)
 
--- two answers of `record_at` on one call are the same
-pub one-record : (x y : Shown) → ((count : ℕ) → shownAs count x ≡ shownAs count y) → x ≡ y
-one-record x y e = sym (record-back 0 x) ∙ ap recordOf (e 0) ∙ record-back 0 y
+-- `record_at`
+pub one-record : (a b : Shown) (r : ℕ → Reading) → ((count : ℕ) → shownAs count a ≡ r count) → ((count : ℕ) → shownAs count b ≡ r count) → a ≡ b
+one-record a b r e f = sole-meant (shownAs 0) recordOf (record-back 0) a b (r 0) (e 0) (f 0)
 
--- two answers of `accept` on one call are the same
-pub one-judgement : (x y : Accepted) → acceptedAs x ≡ acceptedAs y → x ≡ y
-one-judgement x y e = sym (accepted-back x) ∙ ap acceptedOf e ∙ accepted-back y
+-- `accept`
+pub one-judgement : (a b : Accepted) (n : Answer ℕ) → acceptedAs a ≡ n → acceptedAs b ≡ n → a ≡ b
+one-judgement = sole-meant acceptedAs acceptedOf accepted-back
 
--- two answers of `read` on one call are the same
-pub one-answer : (x y : Reply) → shown x ≡ shown y → x ≡ y
-one-answer x y e = sym (reply-back x) ∙ ap replyOf e ∙ reply-back y
+-- `read`
+pub one-reply : (a b : Reply) (r : Answer Reading) → shown a ≡ r → shown b ≡ r → a ≡ b
+one-reply = sole-meant shown replyOf reply-back

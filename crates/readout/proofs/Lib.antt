@@ -5,3 +5,4 @@ pub mod Outs
 pub mod Scans
 pub mod Recipes
 pub mod Totals
+pub mod Unique

@@ -1,6 +1,6 @@
 -- References: a look into the types of the recipe's nodes says what the entries of the nodes so far say, by induction over the nodes.
-use mathlib.Core.Path.{_≡_, refl, sym, ap, _∙_}
-use Prim.Native.Nat.{ℕ, zero, suc, _+_, _-_, _≤_, _<_}
+use mathlib.Core.Path.{_≡_, refl, ap}
+use Prim.Native.Nat.{ℕ, zero, suc, _+_, _-_}
 use mathlib.Core.List.{List, [], _∷_, _++_, append-assoc}
 use mathlib.Core.Bool.{Bool, true, false}
 use native.Mathlib.Omega.{arith}
@@ -13,11 +13,9 @@ use Rattle.format.specs.Bytes.{pick}
 use Rattle.format.specs.Table.{Table, pptt, srat, hmat}
 use Rattle.format.specs.Form.{typeOf}
 use Rattle.format.specs.Node.{Node, starts, atOrdinal}
-use Rattle.header.specs.declared.Table as named
-use Rattle.header.specs.declared.Table.the-variants.{Pptt, Srat, Hmat}
-use Rattle.header.specs.Header.{meant}
+use Rattle.header.specs.Header.{meant, tableNamed}
 use Rattle.recipe.specs.declared.State.{State}
-use Rattle.recipe.specs.Machine.{tableNamed, stateOf, none-made, nodeTypes, typesOf, names, Begins}
+use Rattle.recipe.specs.Machine.{stateOf, none-made, nodeTypes, typesOf, names, Begins}
 
 length-types : (ns : List Node) → length (typesOf ns) ≡ length ns
 unfolding typesOf
@@ -54,11 +52,6 @@ meant-named : (t : Table) → meant (tableNamed t) ≡ t
 meant-named pptt = refl
 meant-named srat = refl
 meant-named hmat = refl
-
-pub named-meant : (u : named.Table) → tableNamed (meant u) ≡ u
-named-meant Pptt = refl
-named-meant Srat = refl
-named-meant Hmat = refl
 
 -- of a record that makes a node
 pub names-new : (r : List ℕ) (t : Table) (ns : List Node) (s : State) → s ≡ stateOf t ns → Begins r t ns → (to ty : ℕ)

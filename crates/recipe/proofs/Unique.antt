@@ -1,24 +1,79 @@
--- The answer is unique: what an answer shows gives the answer back.
-use mathlib.Core.Path.{_≡_, refl, sym, ap, _∙_}
+-- Two answers that meet one contract are equal: what an answer stands for names the answer.
+use mathlib.Core.Path.{_≡_, refl, ap}
 use Prim.Native.Nat.{ℕ}
-use mathlib.Core.List.{List}
+use mathlib.Core.Option.{Option, none, some}
 use lib.Dec.{eqb}
 use Rattle.format.specs.Bytes.{pick, Answer, refused, given}
 use Rattle.format.specs.Table.{Table}
-use Rattle.format.specs.Recipe.{meaning}
+use Rattle.format.specs.Kind as format
+use Rattle.laws.proofs.Sole.{sole-meant}
+use Rattle.header.specs.Header.{tableNamed}
+use Rattle.header.proofs.Unique.{table-back}
+use Rattle.recipe.specs.declared.Kind.{Kind}
+use Rattle.recipe.specs.declared.Kind.the-variants.{Processor, Resource, Cache, Memory, Acpi, Pci, Rintc, Domain, Matrix, Initiator, Target, Cell, Side, Handle}
+use Rattle.recipe.specs.declared.Named.{Named}
+use Rattle.recipe.specs.declared.Named.the-variants.{As, Nothing}
 use Rattle.recipe.specs.declared.Refusal.{Refusal}
 use Rattle.recipe.specs.declared.Refusal.the-variants.{NoHead, BadKind, Cut, Misplaced, BadField, BadRef, FullNode, TooLong}
 use Rattle.recipe.specs.declared.Checked.{Checked}
 use Rattle.recipe.specs.declared.Checked.the-variants.{Good, Refused}
-use Rattle.recipe.specs.Answers.{number, shown, outlined}
-use Rattle.recipe.specs.Machine.{tableNamed}
-use Rattle.recipe.proofs.Refers.{named-meant}
+use Rattle.recipe.specs.Kinds.{meantKind, named}
+use Rattle.recipe.specs.Answers.{number, shown}
 
-abbrev refusalOf : ℕ → Refusal
+-- ---- kinds
+
+abbrev kindNamed : format.Kind → Kind
+kindNamed format.Processor = Processor
+kindNamed format.Resource = Resource
+kindNamed format.Cache = Cache
+kindNamed format.Memory = Memory
+kindNamed format.Acpi = Acpi
+kindNamed format.Pci = Pci
+kindNamed format.Rintc = Rintc
+kindNamed format.Domain = Domain
+kindNamed format.Matrix = Matrix
+kindNamed format.Initiator = Initiator
+kindNamed format.Target = Target
+kindNamed format.Cell = Cell
+kindNamed format.Side = Side
+kindNamed format.Handle = Handle
+
+kind-back : (k : Kind) → kindNamed (meantKind k) ≡ k
+kind-back Processor = refl
+kind-back Resource = refl
+kind-back Cache = refl
+kind-back Memory = refl
+kind-back Acpi = refl
+kind-back Pci = refl
+kind-back Rintc = refl
+kind-back Domain = refl
+kind-back Matrix = refl
+kind-back Initiator = refl
+kind-back Target = refl
+kind-back Cell = refl
+kind-back Side = refl
+kind-back Handle = refl
+
+abbrev namedIn : Option format.Kind → Named
+namedIn none = Nothing
+namedIn (some k) = As (kindNamed k)
+
+named-back : (n : Named) → namedIn (named n) ≡ n
+named-back (As k) = ap As (kind-back k)
+named-back Nothing = refl
+
+-- `kind_of`
+pub one-kind : (a b : Named) (k : Option format.Kind) → named a ≡ k → named b ≡ k → a ≡ b
+one-kind = sole-meant named namedIn named-back
+
+-- ---- answers
+
+-- the refusal of a number
+abbrev pub refusalOf : ℕ → Refusal
 refusalOf n =
     pick (eqb n 1) NoHead (pick (eqb n 2) BadKind (pick (eqb n 3) Cut (pick (eqb n 4) Misplaced (pick (eqb n 5) BadField (pick (eqb n 6) BadRef (pick (eqb n 7) FullNode TooLong))))))
 
-refusal-back : (f : Refusal) → refusalOf (number f) ≡ f
+pub refusal-back : (f : Refusal) → refusalOf (number f) ≡ f
 refusal-back NoHead = refl
 refusal-back BadKind = refl
 refusal-back Cut = refl
@@ -28,14 +83,14 @@ refusal-back BadRef = refl
 refusal-back FullNode = refl
 refusal-back TooLong = refl
 
-abbrev back : Answer (Table × ℕ) → Checked
-back (refused n p) = Refused (refusalOf n) p
-back (given (t, n)) = Good (tableNamed t) n
+abbrev checkedOf : Answer (Table × ℕ) → Checked
+checkedOf (refused n p) = Refused (refusalOf n) p
+checkedOf (given (t, n)) = Good (tableNamed t) n
 
-pub shown-back : (a : Checked) → back (shown a) ≡ a
-shown-back (Good t n) = rw named-meant
-shown-back (Refused f p) = rw refusal-back
+checked-back : (a : Checked) → checkedOf (shown a) ≡ a
+checked-back (Good t n) = rw table-back
+checked-back (Refused f p) = rw refusal-back
 
--- two answers that meet the contract of `check` are equal
-pub unique : (r : List ℕ) (a b : Checked) → shown a ≡ outlined (meaning r) → shown b ≡ outlined (meaning r) → a ≡ b
-unique r a b e f = sym (shown-back a) ∙ ap back (e ∙ sym f) ∙ shown-back b
+-- `check`
+pub one-check : (a b : Checked) (o : Answer (Table × ℕ)) → shown a ≡ o → shown b ≡ o → a ≡ b
+one-check = sole-meant shown checkedOf checked-back

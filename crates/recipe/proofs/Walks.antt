@@ -1,11 +1,10 @@
 -- The records of a recipe from a place on: one more is cut off and judged, or the cut ends there. What the pass keeps stays true.
-use mathlib.Core.Path.{_≡_, refl, sym, ap, _∙_}
+use mathlib.Core.Path.{_≡_, refl, sym, _∙_}
 use Prim.Native.Nat.{ℕ, zero, suc, _+_, _-_, _≤_, _<_}
 use mathlib.Core.List.{List, [], _∷_, _++_, append-assoc, append-nil}
 use mathlib.Core.Bool.{Bool, true, false}
-use mathlib.Core.Option.{Option, none, some}
+use mathlib.Core.Option.{none, some}
 use native.Mathlib.Omega.{arith}
-use native.Mathlib.Nat.{add-zero}
 use native.Mathlib.Numerals.{add-one, sub-one}
 use lib.ListN.{length, drop, getD, drop-of-length-le}
 use lib.Seq.{drop-drop}
@@ -17,11 +16,11 @@ use Rattle.format.specs.Table.{Table, pptt, srat, hmat, code, front, limit, Hea
 use Rattle.format.specs.Form.{processor, matrix, side, typeOf}
 use Rattle.format.specs.Node.{Node, sizes}
 use Rattle.format.specs.Kind.{Kind, Processor, Resource, Cache, Memory, Acpi, Pci, Rintc, Domain, Matrix, Initiator, Target, Cell, Side, Handle, kindOf, body}
-use Rattle.format.specs.Build.{lengthOf}
-use Rattle.format.specs.Recipe.{Newest, aProcessor, aMatrix, aSide, other, cutAs, skip, cut, newest, resource, handle, setting, step, added, fault, Meaning, means, since, run, tableOf, headed, meaning}
+use Rattle.format.specs.Recipe.{Newest, aProcessor, aMatrix, aSide, other, cutAs, skip, cut, newest, resource, handle, setting, step, added, fault, Meaning, since, run, tableOf, headed, meaning}
 use Rattle.laws.proofs.Bytes.{drop-turn, value-byte}
 use Rattle.laws.proofs.Finds.{unless-given}
 use Rattle.laws.proofs.Grows.{passed}
+use Rattle.laws.proofs.Calls.{cut-skip}
 use Rattle.laws.proofs.Links.{size-pos}
 use Rattle.recipe.specs.declared.Newest as kept
 use Rattle.recipe.specs.declared.Newest.the-variants as is
@@ -29,18 +28,10 @@ use Rattle.recipe.specs.declared.Refusal.{Refusal}
 use Rattle.recipe.specs.declared.State.{State}
 use Rattle.recipe.specs.declared.Step.the-variants.{Next, Refused}
 use Rattle.recipe.specs.Answers.{number, outlined}
-use Rattle.recipe.specs.Machine.{newestKept, stateOf, Sound, none-made, makes, made, madeAs, typesIn, nodeTypes, typesOf, stepped, turn, TurnsIn}
+use Rattle.recipe.specs.Machine.{newestKept, stateOf, Sound, none-made, makes, made, madeAs, typesIn, nodeTypes, typesOf, TurnsIn}
 use Rattle.recipe.proofs.Steps.{Parted, parted-all}
 
 -- ---- one record more
-
-cut-skip : (t : Table) (n p : ℕ) (bs : List ℕ) → cut t n p bs ≡ cut t 0 (p + n) (drop n bs)
-unfolding cut
-cut-skip t zero p bs = rw add-zero
-cut-skip t (suc n) p [] = refl
-cut-skip t (suc n) p (b ∷ bs) =
-    let e : suc p + n ≡ p + suc n = omega arith in
-    cut-skip t n (suc p) bs ∙ rw e
 
 types-skip : (t : Table) (n : ℕ) (bs : List ℕ) → typesIn t n bs ≡ typesIn t 0 (drop n bs)
 unfolding typesIn

@@ -2,19 +2,18 @@
 use mathlib.Core.Path.{_≡_}
 use Prim.Native.Nat.{ℕ, zero, suc, _+_, _-_, _≤_}
 use mathlib.Core.List.{List, [], _∷_, _++_}
-use mathlib.Core.Bool.{Bool, true, false}
+use mathlib.Core.Bool.{Bool, false}
 use mathlib.Core.Option.{Option, none, some}
 use lib.ListN.{length, drop, getD}
 use lib.Dec.{eqb, ltb}
 use Rattle.format.specs.Bytes.{pick, Answer, refused, given, unless}
 use Rattle.format.specs.Layout.{fields}
-use Rattle.format.specs.Table.{Table, pptt, srat, hmat, front, limit}
+use Rattle.format.specs.Table.{Table, front, limit}
 use Rattle.format.specs.Form.{processor, cache, memory, acpi, pci, rintc, domain, matrix, side, typeOf}
 use Rattle.format.specs.Node.{Node, sizes}
 use Rattle.format.specs.Kind.{Kind, Processor, Resource, Cache, Memory, Acpi, Pci, Rintc, Domain, Matrix, Initiator, Target, Cell, Side, Handle, kindOf, body}
 use Rattle.format.specs.Recipe.{Newest, aProcessor, aMatrix, aSide, other, newest, skip, added, fault}
-use Rattle.header.specs.declared.Table as named
-use Rattle.header.specs.declared.Table.the-variants.{Pptt, Srat, Hmat}
+use Rattle.header.specs.Header.{tableNamed}
 use Rattle.recipe.specs.declared.Newest as kept
 use Rattle.recipe.specs.declared.Newest.the-variants as is
 use Rattle.recipe.specs.declared.State.{State}
@@ -24,11 +23,6 @@ use Rattle.recipe.specs.declared.Step.the-variants.{Next, Refused}
 use Rattle.recipe.specs.Answers.{number}
 
 -- ---- the state
-
-abbrev pub tableNamed : Table → named.Table
-tableNamed pptt = Pptt
-tableNamed srat = Srat
-tableNamed hmat = Hmat
 
 -- the newest node without its fields
 abbrev pub newestKept : Newest → kept.Newest

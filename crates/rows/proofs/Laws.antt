@@ -1,4 +1,4 @@
--- Tests joined, zeros in two parts, lists of plain fields, and a record's judgement read by places.
+-- Zeros in two parts, lists of plain fields, and a record's judgement read by places.
 use mathlib.Core.Path.{_≡_, refl, sym, _∙_}
 use Prim.Native.Nat.{ℕ, zero, suc, _+_, _*_, _^_, _≤_, _<_}
 use mathlib.Core.List.{List, [], _∷_, _++_}
@@ -15,25 +15,10 @@ use Rattle.format.specs.Form.{Form, acpi, pci, layout, ranges}
 use Rattle.format.specs.Row.{initiators, formIn}
 use Rattle.format.specs.Read.{sound, listIn, partOf}
 use Rattle.laws.specs.Offsets.{fieldsAt, fixedAt}
+use Rattle.laws.proofs.Tests.{both-assoc}
 use Rattle.laws.proofs.Offsets.{fields-at, fixed-at}
 use Rattle.laws.proofs.Bytes.{value-parts}
 use Rattle.rows.specs.Rows.{num}
-
-pub both-assoc : (a b c : Bool) → both (both a b) c ≡ both a (both b c)
-both-assoc true b c = refl
-both-assoc false b c = refl
-
-pub both-right : (b : Bool) → both b true ≡ b
-both-right true = refl
-both-right false = refl
-
-pub both-false : (b : Bool) → both b false ≡ false
-both-false true = refl
-both-false false = refl
-
-pub both-swap : (a b c : Bool) → both a (both b c) ≡ both b (both a c)
-both-swap true b c = refl
-both-swap false b c = sym (both-false b)
 
 -- ---- what a test of the code says of the test that it stands for
 

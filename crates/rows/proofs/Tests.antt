@@ -14,7 +14,8 @@ use Rattle.format.specs.Read.{sound}
 use Rattle.laws.proofs.Offsets.{fixed-at, fields-at}
 use Rattle.laws.proofs.Bytes.{value-byte}
 use Rattle.rows.specs.Rows.{num, startsShort, startsLong, keptBy, handleSound, matrixRanges}
-use Rattle.rows.proofs.Laws.{both-assoc, both-right, both-swap, zeros-parts, fixed-list, fixed-append, sound-at}
+use Rattle.laws.proofs.Tests.{both-assoc, both-right, both-swap}
+use Rattle.rows.proofs.Laws.{zeros-parts, fixed-list, fixed-append, sound-at}
 
 pub processor-tests : (bs : List ℕ)
     → let n : ℕ = (length bs - 20) / 4 in

@@ -1,12 +1,10 @@
--- What a reading call shows of a node, and that a node determines its record: by computation, for an initiator by its handle.
-use mathlib.Core.Path.{_≡_, refl, sym, ap, _∙_}
+-- What a reading call shows of a node: by computation, for an initiator by its handle.
+use mathlib.Core.Path.{_≡_, refl}
 use Prim.Native.Nat.{ℕ}
-use mathlib.Core.List.{List, [], _∷_, _++_}
-use lib.ListN.{length}
+use mathlib.Core.List.{List, _∷_}
 use lib.Dec.{eqb}
-use Rattle.format.specs.Bytes.{pick, at, value, part}
+use Rattle.format.specs.Bytes.{pick, value, part}
 use Rattle.format.specs.Form.{acpi, pci}
-use Rattle.format.specs.Node.{Node}
 use Rattle.format.specs.Row.{initiators, formIn}
 use Rattle.format.specs.Read.{shown}
 use Rattle.laws.proofs.Bytes.{value-byte}
@@ -15,7 +13,7 @@ use Rattle.srat.specs.declared.Handle.the-variants.{Acpi, Pci}
 use Rattle.srat.specs.declared.MemoryAffinity.{MemoryAffinity}
 use Rattle.srat.specs.declared.GenericInitiator.{GenericInitiator}
 use Rattle.srat.specs.declared.RintcAffinity.{RintcAffinity}
-use Rattle.srat.specs.Srat.{handleForm, handleType, handleValues, memoryNode, initiatorNode, rintcNode, memoryShown, initiatorShown, rintcShown}
+use Rattle.srat.specs.Srat.{handleForm, handleType, memoryNode, initiatorNode, rintcNode, memoryShown, initiatorShown, rintcShown}
 
 -- the number in the byte of the handle says the form of an initiator
 pub initiator-form : (bs : List ℕ) → formIn initiators bs ≡ pick (eqb (value (part bs 3 1)) 0) acpi pci
@@ -37,27 +35,3 @@ initiator-shown i = handle-shown (i .handle) (initiatorNode i .values)
 pub rintc-shown : (r : RintcAffinity) → rintcShown r ≡ shown (rintcNode r .form) (rintcNode r .values)
 unfolding shown
 rintc-shown r = refl
-
--- ---- a node says all of its record: so `get` has one answer
-
-pub memory-sole : (a b : MemoryAffinity) → memoryNode a ≡ memoryNode b → a ≡ b
-memory-sole a b e =
-    ap (λ (n : Node). record { «proximity_domain» = at (n .values) 0; «base_address» = at (n .values) 1; length = at (n .values) 2; flags = at (n .values) 3 }) e
-
-pub rintc-sole : (a b : RintcAffinity) → rintcNode a ≡ rintcNode b → a ≡ b
-rintc-sole a b e = ap (λ (n : Node). record { «acpi_processor_uid» = at (n .values) 0; flags = at (n .values) 1; «clock_domain» = at (n .values) 2 }) e
-
--- four values have an ACPI handle among them, six a PCI handle
-abbrev back : List ℕ → GenericInitiator
-back vs =
-    pick (eqb (length vs) 4)
-    (record { «proximity_domain» = at vs 0; handle = Acpi (at vs 1) (at vs 2); flags = at vs 3 })
-    (record { «proximity_domain» = at vs 0; handle = Pci (at vs 1) (at vs 2) (at vs 3) (at vs 4); flags = at vs 5 })
-
-back-values : (domain flags : ℕ) (h : Handle) → back (domain ∷ (handleValues h ++ (flags ∷ []))) ≡ record { «proximity_domain» = domain; handle = h; flags = flags }
-back-values domain flags (Acpi hid uid) = refl
-back-values domain flags (Pci segment bus device function) = refl
-
-pub initiator-sole : (a b : GenericInitiator) → initiatorNode a ≡ initiatorNode b → a ≡ b
-initiator-sole a b e =
-    sym (back-values _ _ (a .handle)) ∙ (ap (λ (n : Node). back (n .values)) e ∙ back-values _ _ (b .handle))

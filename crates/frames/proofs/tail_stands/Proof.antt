@@ -4,7 +4,7 @@ use borrow.Author.Needs.{needs}
 use borrow.Author.Tests.{eq-eqb, ne-eqb}
 use lib.Dec.{eqb}
 use Rattle.laws.proofs.Offsets.{fixed-at}
-use Rattle.frames.proofs.Heads.{both-right}
+use Rattle.laws.proofs.Tests.{both-right}
 use Rattle.frames.proofs.tail_stands.Statement.{statement}
 use Rattle.frames.proofs.tail_stands.Tie as tie
 

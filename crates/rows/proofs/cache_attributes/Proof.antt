@@ -3,7 +3,8 @@ use borrow.Author.Needs.{needs}
 use borrow.Author.Tests.{le-ltb, lt-ltb, le-leb, lt-leb}
 use Rattle.format.specs.Form.{cacheAttributes}
 use Rattle.rows.specs.Rows.{keptBy}
-use Rattle.rows.proofs.Laws.{both-false, failed, passed}
+use Rattle.laws.proofs.Tests.{both-false}
+use Rattle.rows.proofs.Laws.{failed, passed}
 use Rattle.rows.proofs.cache_attributes.Statement.{statement}
 use Rattle.rows.proofs.cache_attributes.Tie as tie
 

@@ -1,7 +1,8 @@
 -- `cache_ranges` meets its contract: the fields are read by their offsets.
 use borrow.Author.Needs.{needs}
 use borrow.Author.Tests.{le-ltb, lt-ltb}
-use Rattle.rows.proofs.Laws.{both-false, failed, passed}
+use Rattle.laws.proofs.Tests.{both-false}
+use Rattle.rows.proofs.Laws.{failed, passed}
 use Rattle.rows.proofs.Tests.{cache-ranges}
 use Rattle.rows.proofs.cache_ranges.Statement.{statement}
 use Rattle.rows.proofs.cache_ranges.Tie as tie

@@ -5,7 +5,7 @@ use borrow.Author.Needs.{needs}
 use borrow.Author.Tests.{le-leb, ne-eqb}
 use Rattle.laws.proofs.Bytes.{value-byte}
 use Rattle.rows.specs.Rows.{num, handleSound}
-use Rattle.rows.proofs.Laws.{both-right}
+use Rattle.laws.proofs.Tests.{both-right}
 use Rattle.rows.proofs.handle_sound.Statement.{statement}
 use Rattle.rows.proofs.handle_sound.Tie as tie
 

@@ -2,7 +2,8 @@
 use borrow.Author.Needs.{needs}
 use borrow.Author.Tests.{le-leb, lt-leb}
 use Rattle.format.specs.Row.{column}
-use Rattle.rows.proofs.Laws.{both-false, above, within}
+use Rattle.laws.proofs.Tests.{both-false}
+use Rattle.rows.proofs.Laws.{above, within}
 use Rattle.rows.proofs.matrix_fits.Statement.{statement}
 use Rattle.rows.proofs.matrix_fits.Tie as tie
 

@@ -1,7 +1,8 @@
 -- `matrix_ranges` meets its contract, test by test.
 use borrow.Author.Needs.{needs}
 use Rattle.rows.specs.Rows.{matrixRanges}
-use Rattle.rows.proofs.Laws.{both-false, failed, passed, above, within}
+use Rattle.laws.proofs.Tests.{both-false}
+use Rattle.rows.proofs.Laws.{failed, passed, above, within}
 use Rattle.rows.proofs.matrix_ranges.Statement.{statement}
 use Rattle.rows.proofs.matrix_ranges.Tie as tie
 

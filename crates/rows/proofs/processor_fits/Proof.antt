@@ -1,7 +1,7 @@
 -- `processor_fits` meets its contract, test by test.
 use borrow.Author.Tests.{le-leb, lt-leb}
 use Rattle.format.specs.Row.{column}
-use Rattle.rows.proofs.Laws.{both-false}
+use Rattle.laws.proofs.Tests.{both-false}
 use Rattle.rows.proofs.processor_fits.Statement.{statement}
 use Rattle.rows.proofs.processor_fits.Tie as tie
 

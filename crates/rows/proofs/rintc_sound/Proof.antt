@@ -1,6 +1,7 @@
 -- `rintc_sound` meets its contract: its tests are those of the row.
 use borrow.Author.Needs.{needs}
-use Rattle.rows.proofs.Laws.{both-false, failed, passed, differs, equals}
+use Rattle.laws.proofs.Tests.{both-false}
+use Rattle.rows.proofs.Laws.{failed, passed, differs, equals}
 use Rattle.rows.proofs.Tests.{rintc-tests}
 use Rattle.rows.proofs.rintc_sound.Statement.{statement}
 use Rattle.rows.proofs.rintc_sound.Tie as tie

@@ -1,7 +1,7 @@
 -- `side_attributes` meets its contract, test by test.
 use borrow.Author.Tests.{le-leb, lt-leb}
 use Rattle.format.specs.Form.{sideAttributes}
-use Rattle.rows.proofs.Laws.{both-false}
+use Rattle.laws.proofs.Tests.{both-false}
 use Rattle.rows.proofs.side_attributes.Statement.{statement}
 use Rattle.rows.proofs.side_attributes.Tie as tie
 
