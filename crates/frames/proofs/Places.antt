@@ -5,19 +5,23 @@ use mathlib.Core.List.{List, [], _∷_}
 use mathlib.Core.Bool.{Bool, true, false}
 use mathlib.Core.Logic.{_⊎_, inl, inr, ⊎-elim}
 use native.Mathlib.Omega.{arith}
-use lib.ListN.{length, take, drop, length-drop, drop-of-length-le}
+use lib.ListN.{length, drop, length-drop, drop-of-length-le}
 use lib.Seq.{drop-drop, length-take-le, take-take}
 use lib.Dec.{eqb, leb, ltb}
-use borrow.Author.Tests.{eq-eqb, ne-eqb, leb-true, lt-ltb, le-ltb, ltb-true, ltb-false}
-use Rattle.format.specs.Bytes.{pick}
+use borrow.Author.Tests.{eq-eqb, ne-eqb, eqb-true, le-leb, leb-true, leb-false, lt-ltb, le-ltb, ltb-true, ltb-false}
+use Rattle.format.specs.Bytes.{pick, part}
 use Rattle.format.specs.Table.{Table, pptt, srat, hmat, front, frame, least}
 use Rattle.format.specs.Node.{Entry, entry, atPlace}
 use Rattle.format.specs.Read.{typeIn, sizeIn, framed, Frames, ended, badFrame, framedAt, frames}
 use Rattle.laws.proofs.Lays.{both-true}
 use Rattle.laws.proofs.Good.{frames-first}
-use Rattle.frames.specs.Frames.{framesOf, named, refers, recordIn}
+use Rattle.frames.specs.Frames.{ahead, framesOf, numbered, named, refers, recordIn}
 
 -- ---- a frame
+
+pub part-drop : (c : List ℕ) (p q n : ℕ) → part (drop p c) q n ≡ part c (p + q) n
+unfolding part
+part-drop c p q n = rw drop-drop
 
 pub least-two : (t : Table) → 2 ≤ least t
 least-two pptt = omega arith
@@ -53,10 +57,6 @@ type-in t bs f =
 
 -- ---- a walk by places: from p on
 
--- what stands from p on in c
-abbrev pub ahead : Table → List ℕ → ℕ → Frames
-ahead t c p = frames t 0 p (drop p c)
-
 -- the record at p
 abbrev pub recordAt : Table → List ℕ → ℕ → List ℕ
 recordAt t c p = recordIn t (drop p c)
@@ -85,26 +85,16 @@ module _ (t : Table) (c : List ℕ) (p : ℕ) where
       let d : length (drop p c) ≡ length c - p = length-drop p c in
       (omega (arith, F .some, F .inside), omega (arith, F .inside, F .long))
 
+  pub room-for : framed t (drop p c) ≡ true → p + least t ≤ length c
+  room-for f =
+      let F = framed-then t (drop p c) f in
+      let d : length (drop p c) ≡ length c - p = length-drop p c in
+      omega (arith, least-two t, F .least, F .inside)
+
   pub ahead-next : framed t (drop p c) ≡ true → ahead t c p ≡ framedAt p (recordAt t c p) (ahead t c (next t c p))
   ahead-next f =
       let F = framed-then t (drop p c) f in
       frames-first t p (drop p c) (omega (arith, F .some, F .inside)) (omega (arith, F .some)) ∙ rw (f, drop-drop, F .long)
-
--- what a turn of a walk learns that finds a frame at p: s is what stands there, n the length in it
-pub record Passed (t : Table) (c : List ℕ) (p n : ℕ) : Type 0 where
-  pub frame : framed t (drop p c) ≡ true
-  pub some : 2 ≤ n
-  pub inside : p + n ≤ length c
-  pub next : next t c p ≡ p + n
-
-pub passes : (t : Table) (c s : List ℕ) (p n : ℕ) (b : Bool) → s ≡ drop p c → b ≡ framed t s → b ≡ true → n ≡ sizeIn t s → Passed t c p n
-passes t c s p n b e f y z =
-    let g : framed t (drop p c) ≡ true = cc in
-    let F = framed-then t (drop p c) g in
-    let m : length (recordAt t c p) ≡ n = F .long ∙ sym (z ∙ rw e) in
-    record { frame = g; some = omega (arith, F .some, F .long); inside = omega (arith, room t c p g .1); next = rw m }
-
--- ---- references
 
 pub lt-or-le : (a b : ℕ) → (a < b) ⊎ (b ≤ a)
 lt-or-le a b = by (ltb a b) refl
@@ -113,30 +103,98 @@ lt-or-le a b = by (ltb a b) refl
     by true e = inl (ltb-true a b e)
     by false e = inr (ltb-false a b e)
 
-module _ (t : Table) (v ty : ℕ) where
-  -- places only rise
-  named-above : (k p : ℕ) (bs : List ℕ) → v < p → named t (frames t k p bs) v ty ≡ false
-  unfolding named frames
-  named-above k p [] l = refl
-  named-above (suc k) p (b ∷ bs) l = named-above k (suc p) bs (omega arith)
-  named-above zero p (b ∷ bs) l = by (framed t (b ∷ bs)) (named-above (sizeIn t (b ∷ bs) - 1) (suc p) bs (omega arith))
+-- the walk from p on, by cases: it ends, there is no frame, or the claim holds of what comes behind the record
+pub walking : (t : Table) (c : List ℕ) (P : ℕ → Frames → Type 0) → ((p : ℕ) → P p ended) → ((p : ℕ) → P p (badFrame p))
+    → ((p : ℕ) → framed t (drop p c) ≡ true → P (next t c p) (ahead t c (next t c p)) → P p (framedAt p (recordAt t c p) (ahead t c (next t c p))))
+    → (p : ℕ) → P p (ahead t c p)
+walking t c P e b n p = go (length c) p (omega arith)
+  where
+    go : (m p : ℕ) → length c ≤ p + m → P p (ahead t c p)
+    go zero p l = rw (ahead-end t c p (omega arith)) (e p)
+    go (suc m) p l = ⊎-elim (λ (a : p < length c). by a (framed t (drop p c)) refl (go m (next t c p))) (λ (a : length c ≤ p). rw (ahead-end t c p a) (e p)) (lt-or-le p (length c))
+      where
+        by : p < length c → (x : Bool) → framed t (drop p c) ≡ x → (length c ≤ next t c p + m → P (next t c p) (ahead t c (next t c p))) → P p (ahead t c p)
+        by a true f ih = let F = framed-then t (drop p c) f in rw (ahead-next t c p f) (n p f (ih (omega (arith, F .some, F .long))))
+        by a false f ih = rw (ahead-bad t c p a f) (b p)
+
+-- ---- a walk to v, which reads no more than the lengths on its way
+
+module _ (t : Table) (bs : List ℕ) where
+  short-frame : sizeIn t bs < least t → framed t bs ≡ false
+  short-frame l = by (framed t bs) refl
     where
-      by : (x : Bool) → named t (frames t (sizeIn t (b ∷ bs) - 1) (suc p) bs) v ty ≡ false
-          → named t (pick x (framedAt p (take (sizeIn t (b ∷ bs)) (b ∷ bs)) (frames t (sizeIn t (b ∷ bs) - 1) (suc p) bs)) (badFrame p)) v ty ≡ false
-      by true ih = rw (ne-eqb p v (λ e. omega arith)) ih
-      by false ih = refl
+      by : (x : Bool) → framed t bs ≡ x → framed t bs ≡ false
+      by true e = absurd (omega (arith, framed-then t bs e .least))
+      by false e = e
 
-  pub named-past : (c : List ℕ) (p : ℕ) → v < p → named t (ahead t c p) v ty ≡ false
-  named-past c p l = named-above 0 p (drop p c) l
+  long-frame : least t ≤ length bs → least t ≤ sizeIn t bs → framed t bs ≡ false → length bs < sizeIn t bs
+  unfolding framed
+  long-frame a b e = leb-false (sizeIn t bs) (length bs) (rw (le-leb _ _ a, le-leb _ _ b) at e)
 
-  module _ (c : List ℕ) (p : ℕ) where
-    pub named-bad : framed t (drop p c) ≡ false → named t (ahead t c p) v ty ≡ false
-    unfolding named
-    named-bad f = ⊎-elim (λ (l : p < length c). rw (ahead-bad t c p l f)) (λ (l : length c ≤ p). rw (ahead-end t c p l)) (lt-or-le p (length c))
+module _ (t : Table) (c : List ℕ) (v : ℕ) where
+  none-numbered : (k p : ℕ) → ((q : ℕ) → p ≤ q → framed t (drop q c) ≡ true → q ≡ v → ⊥) → numbered k v (ahead t c p) ≡ 0
+  unfolding numbered
+  none-numbered k p h =
+      walking t c (λ p fs. (k : ℕ) → ((q : ℕ) → p ≤ q → framed t (drop q c) ≡ true → q ≡ v → ⊥) → numbered k v fs ≡ 0) (λ p k h. refl) (λ p k h. refl)
+      (λ p f ih k h. rw (ne-eqb p v (h p (omega arith) f)) (ih (suc k) (λ q l. h q (omega arith)))) p k h
 
-    pub named-next : framed t (drop p c) ≡ true → named t (ahead t c p) v ty ≡ pick (eqb p v) (eqb (typeIn t (recordAt t c p)) ty) (named t (ahead t c (next t c p)) v ty)
-    unfolding named
-    named-next f = rw (ahead-next t c p f)
+  -- nothing has a number where no frame stands
+  pub numbered-bare : (k p : ℕ) → framed t (drop v c) ≡ false → numbered k v (ahead t c p) ≡ 0
+  numbered-bare k p f = none-numbered k p (λ q l g e. let z : true ≡ false = sym g ∙ rw e f in let o : _≡_ {A = ℕ} 0 1 = cc in omega arith)
+
+  -- places only rise
+  pub numbered-past : (k p : ℕ) → v < p → numbered k v (ahead t c p) ≡ 0
+  numbered-past k p l = none-numbered k p (λ q m g e. omega arith)
+
+  pub numbered-here : (k : ℕ) → framed t (drop v c) ≡ true → numbered k v (ahead t c v) ≡ k
+  unfolding numbered
+  numbered-here k f = rw (ahead-next t c v f, eq-eqb v v refl)
+
+  module _ (k p : ℕ) where
+    pub numbered-short : p < length c → sizeIn t (drop p c) < least t → numbered k v (ahead t c p) ≡ 0
+    unfolding numbered
+    numbered-short l s = rw (ahead-bad t c p l (short-frame t (drop p c) s))
+
+    pub numbered-next : framed t (drop p c) ≡ true → numbered k v (ahead t c p) ≡ pick (eqb p v) k (numbered (suc k) v (ahead t c (next t c p)))
+    unfolding numbered
+    numbered-next f = rw (ahead-next t c p f)
+
+    -- a length past the end leads to where nothing has a number, as the frame that it makes bad
+    pub numbered-on : (n : ℕ) → p + least t ≤ length c → p < v → n ≡ sizeIn t (drop p c) → least t ≤ n → numbered k v (ahead t c p) ≡ numbered (suc k) v (ahead t c (p + n))
+    unfolding numbered
+    numbered-on n r l e m = by (framed t (drop p c)) refl
+      where
+        by : (x : Bool) → framed t (drop p c) ≡ x → numbered k v (ahead t c p) ≡ numbered (suc k) v (ahead t c (p + n))
+        by true f = numbered-next f ∙ rw (ne-eqb p v (λ z. omega arith), framed-then t (drop p c) f .long, e)
+        by false f =
+            let d : length (drop p c) ≡ length c - p = length-drop p c in
+            let s = long-frame t (drop p c) (omega arith) (omega arith) f in
+            rw (ahead-bad t c p (omega (arith, least-two t)) f, ahead-end t c (p + n) (omega arith))
+
+-- ---- references
+
+-- the record that has a number is there: its type decides
+pub named-numbered : (t : Table) (c : List ℕ) (v ty k p : ℕ) → named t (ahead t c p) v ty ≡ pick (eqb (numbered (suc k) v (ahead t c p)) 0) false (eqb (typeIn t (drop v c)) ty)
+unfolding named numbered
+named-numbered t c v ty k p =
+    walking t c (λ p fs. (k : ℕ) → named t fs v ty ≡ pick (eqb (numbered (suc k) v fs) 0) false (eqb (typeIn t (drop v c)) ty)) (λ p k. refl) (λ p k. refl)
+    (λ p f ih k. by p f k (ih (suc k)) (eqb p v) refl) p k
+  where
+    by : (p : ℕ) → framed t (drop p c) ≡ true → (k : ℕ)
+        → named t (ahead t c (next t c p)) v ty ≡ pick (eqb (numbered (suc (suc k)) v (ahead t c (next t c p))) 0) false (eqb (typeIn t (drop v c)) ty)
+        → (x : Bool) → eqb p v ≡ x
+        → pick x (eqb (typeIn t (recordAt t c p)) ty) (named t (ahead t c (next t c p)) v ty)
+        ≡ pick (eqb (pick x (suc k) (numbered (suc (suc k)) v (ahead t c (next t c p)))) 0) false (eqb (typeIn t (drop v c)) ty)
+    by p f k ih true e = rw (type-in t (drop p c) f, eqb-true p v e, ne-eqb (suc k) 0 (λ z. omega arith))
+    by p f k ih false e = ih
+
+module _ (t : Table) (v ty : ℕ) (c : List ℕ) (p : ℕ) where
+  named-past : v < p → named t (ahead t c p) v ty ≡ false
+  named-past l = named-numbered t c v ty 0 p ∙ rw (numbered-past t c v 1 p l)
+
+  named-next : framed t (drop p c) ≡ true → named t (ahead t c p) v ty ≡ pick (eqb p v) (eqb (typeIn t (recordAt t c p)) ty) (named t (ahead t c (next t c p)) v ty)
+  unfolding named
+  named-next f = rw (ahead-next t c p f)
 
 -- the walk from the front has come to p, past these records (the newest first)
 pub data Came (t : Table) (c : List ℕ) : ℕ → List Entry → Type 0 where
@@ -145,7 +203,7 @@ pub data Came (t : Table) (c : List ℕ) : ℕ → List Entry → Type 0 where
 
 module _ (t : Table) (c : List ℕ) (v ty : ℕ) where
   -- what is named before p is among the records passed, and what is named from p on is ahead
-  passed : {p : ℕ} {es : List Entry} → Came t c p es
+  pub passed : {p : ℕ} {es : List Entry} → Came t c p es
       → (v < p → atPlace es v ty ≡ named t (framesOf t c) v ty) × (p ≤ v → (atPlace es v ty ≡ false) × (named t (framesOf t c) v ty ≡ named t (ahead t c p) v ty))
   unfolding atPlace
   passed start = (λ l. sym (named-past t v ty c (front t) l), λ l. (refl, refl))

@@ -1,5 +1,5 @@
 -- Frames by their places in a table's own bytes c.
-use Prim.Native.Nat.{ℕ}
+use Prim.Native.Nat.{ℕ, suc}
 use mathlib.Core.List.{List}
 use mathlib.Core.Bool.{Bool, false}
 use lib.ListN.{take, drop}
@@ -8,9 +8,19 @@ use Rattle.format.specs.Bytes.{pick, both}
 use Rattle.format.specs.Table.{Table, front}
 use Rattle.format.specs.Read.{typeIn, sizeIn, Frames, ended, badFrame, framedAt, frames}
 
+-- what stands from p on
+abbrev pub ahead : Table → List ℕ → ℕ → Frames
+ahead t c p = frames t 0 p (drop p c)
+
 -- the records behind the front
 abbrev pub framesOf : Table → List ℕ → Frames
-framesOf t c = frames t 0 (front t) (drop (front t) c)
+framesOf t c = ahead t c (front t)
+
+-- the number of the record that starts at v, where the first one's is k; 0 where none does
+unfoldable pub numbered : ℕ → ℕ → Frames → ℕ
+numbered k v ended = 0
+numbered k v (badFrame p) = 0
+numbered k v (framedAt p bs rest) = pick (eqb p v) k (numbered (suc k) v rest)
 
 -- the record that starts at v is there, and has type ty
 unfoldable pub named : Table → Frames → ℕ → ℕ → Bool

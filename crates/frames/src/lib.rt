@@ -1,14 +1,15 @@
 // The header of a table, the frames of its records, and the references between them.
 // Any bytes are allowed: what is read past their end counts as 0.
 ghost use mathlib.Core.Path.{_≡_};
-ghost use lib.ListN.{take, drop};
+ghost use Prim.Native.Nat.{_+_, _≤_};
+ghost use lib.ListN.{length, take, drop};
 ghost use Rattle.format.specs.Bytes.{given, same, unless};
 ghost use Rattle.format.specs.Layout.{fixedOk};
 ghost use Rattle.format.specs.Table.{tail, least};
 ghost use Rattle.format.specs.Read.{signed, own, headFault, judgeHead, typeIn, sizeIn, framed};
 ghost use Rattle.header.specs.Header.{meant};
 ghost use Rattle.frames.specs.Refusals.{refusalNumber, refusalPlace, spelledAs, judgedAs};
-ghost use Rattle.frames.specs.Frames.{framesOf, named, refers, recordIn};
+ghost use Rattle.frames.specs.Frames.{ahead, numbered, named, recordIn};
 use header::Table;
 
 // What a reading call refuses, in the order of the tests.
@@ -237,34 +238,49 @@ pub fn record_in(t: Table, s: &[u8]) -> &[u8]
 
 // ---- references
 
-// Whether the walk from the first record of a table's own bytes comes to v, and to a record of type kind.
-fn starts(t: Table, c: &[u8], v: usize, kind: u16) -> bool
-    ensures { λ r. ⌜ r ≡ named (meant t) (framesOf (meant t) (now (c .entry))) v kind ⌝ }
+// The length in the frame at a place that has room for one.
+fn size_at(t: Table, c: &[u8], p: usize) -> u32
+    requires { ⌜ p + least (meant t) ≤ length (now c) ⌝ }
+    ensures { λ r. ⌜ r ≡ sizeIn (meant t) (drop p (now (c .entry))) ⌝ }
 {
-    let mut from = t.front();
-    while from < v {
-        let s = field::rest(c, from);
-        if !framed(t, s) {
-            return false;
-        }
-        from += size_in(t, s);
+    match t {
+        Table::Pptt => c[p + 1] as u32,
+        Table::Srat => c[p + 1] as u32,
+        Table::Hmat => field::get_u32(c, p + 4),
     }
-    if v < from {
-        return false;
-    }
-    let s = field::rest(c, v);
-    if !framed(t, s) {
-        return false;
-    }
-    type_in(t, s) == kind
 }
 
-// Whether v is the start of a record of type kind before the one at own: being below own is not enough.
-pub fn refers(t: Table, c: &[u8], own: usize, v: usize, kind: u16) -> bool
-    ensures { λ r. ⌜ r ≡ refers (meant t) (now (c .entry)) own v kind ⌝ }
+// The number of the record at v on the walk from a place on, where the first is 1; 0 where the walk comes to none there.
+// A length past the end is found where the walk would go on: only what is too short is tested on the way.
+pub fn number(t: Table, c: &[u8], from: usize, v: usize) -> usize
+    ensures { λ r. ⌜ r ≡ numbered 1 v (ahead (meant t) (now (c .entry)) from) ⌝ }
 {
-    if own <= v {
+    if !framed(t, field::rest(c, v)) {
+        return 0;
+    }
+    let min = least(t);
+    let mut p = from;
+    let mut k = 1;
+    while p < v {
+        let n = size_at(t, c, p) as usize;
+        if n < min {
+            return 0;
+        }
+        p += n;
+        k += 1;
+    }
+    if v < p {
+        return 0;
+    }
+    k
+}
+
+// Whether the walk from a place on comes to v, and to a record of type kind.
+pub fn starts(t: Table, c: &[u8], from: usize, v: usize, kind: u16) -> bool
+    ensures { λ r. ⌜ r ≡ named (meant t) (ahead (meant t) (now (c .entry)) from) v kind ⌝ }
+{
+    if number(t, c, from, v) == 0 {
         return false;
     }
-    starts(t, c, v, kind)
+    type_in(t, field::rest(c, v)) == kind
 }

@@ -15,7 +15,8 @@ use Rattle.format.specs.Read.{signed, own, headFault, judgeHead, framed, Seen, 
 use Rattle.laws.proofs.Bytes.{value-byte}
 use Rattle.laws.proofs.Finds.{then-given, or-given, unless-given}
 use Rattle.laws.proofs.Masks.{walk-first}
-use Rattle.frames.proofs.Places.{lt-or-le, ahead, recordAt, next, ahead-end, ahead-bad, ahead-next}
+use Rattle.frames.specs.Frames.{ahead}
+use Rattle.frames.proofs.Places.{lt-or-le, recordAt, next, ahead-end, ahead-bad, ahead-next}
 use Rattle.read.specs.declared.Shown.{Shown}
 use Rattle.read.specs.Answers.{shownAs}
 use Rattle.read.specs.Places.{counted, bodyIn, bodyAt, seenIn, seenAt, frontOf, firstPlace, behind, seenFrom}

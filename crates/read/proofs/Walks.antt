@@ -16,8 +16,8 @@ use Rattle.format.specs.Row.{Row, formIn, known, rowOf}
 use Rattle.format.specs.Node.{Entry, entry, atPlace}
 use Rattle.format.specs.Read.{typeIn, framed, recordFault, Seen, seenAs, push, walk}
 use Rattle.laws.proofs.Finds.{unless-given}
-use Rattle.frames.specs.Frames.{framesOf, refers, recordIn}
-use Rattle.frames.proofs.Places.{framed-then, ahead, recordAt, next, ahead-end, ahead-bad, ahead-next, room, Came, start, more, came-refers}
+use Rattle.frames.specs.Frames.{ahead, framesOf, refers, recordIn}
+use Rattle.frames.proofs.Places.{framed-then, recordAt, next, ahead-end, ahead-bad, ahead-next, room, Came, start, more, came-refers}
 use Rattle.rows.specs.Rows.{soundAs}
 use Rattle.read.specs.Places.{refsIn, judgedAt, counted}
 use Rattle.read.proofs.Refs.{fault-is}

@@ -11,8 +11,8 @@ ghost use Rattle.format.specs.Read as format;
 ghost use Rattle.header.specs.Header.{meant};
 ghost use Rattle.pptt.specs.Processor.{processorShown};
 ghost use Rattle.rows.specs.Rows.{rowMeant};
-ghost use Rattle.frames.specs.Frames.{framesOf, refers};
-ghost use Rattle.read.specs.Places.{linked, refsIn, judgedAt, counted, bodyAt, seenAt, partAt, firstPlace, behind};
+ghost use Rattle.frames.specs.Frames.{ahead, framesOf, named, refers};
+ghost use Rattle.read.specs.Places.{Reached, Marked, linked, refsIn, judgedAt, counted, bodyAt, seenAt, partAt, firstPlace, behind};
 ghost use Rattle.read.specs.Answers.{rowIn, fieldsIn, shownAs, stepAs, acceptedAs, shown};
 use frames::Judged;
 use frames::Refusal;
@@ -30,25 +30,77 @@ use srat::RintcAffinity;
 
 // ---- the judgement: c is a table's own bytes
 
+// Marks: places that the walk from the front has come to, one for each of as many equal parts of the table.
+const MARKS: usize = 64;
+
+// The part in which a place is. No proof asks which: a mark is good wherever it stands.
+fn part_of(len: usize, p: usize) -> usize {
+    p / (len / MARKS + 1)
+}
+
+// Marks a place, where it is the first in its part.
+fn mark(t: Table, c: &[u8], marks: &mut [usize], p: usize)
+    requires { ⌜ Marked (meant t) (now c) (now marks) × Reached (meant t) (now c) p ⌝ }
+    ensures { λ _. ⌜ Marked (meant t) (now (c .entry)) (now (marks .exit)) ⌝ }
+{
+    let i = part_of(c.len(), p);
+    if marks.len() <= i {
+        return;
+    }
+    if marks[i] != t.front() {
+        return;
+    }
+    marks[i] = p;
+}
+
+// A place from which a walk to v comes to what it comes to from the front.
+fn near(t: Table, c: &[u8], marks: &[usize], v: usize) -> usize
+    requires { ⌜ Marked (meant t) (now c) (now marks) ⌝ }
+    ensures { λ r. ⌜ ((kind : ℕ) → named (meant t) (framesOf (meant t) (now (c .entry))) v kind ≡ named (meant t) (ahead (meant t) (now (c .entry)) r) v kind) ⌝ }
+{
+    let i = part_of(c.len(), v);
+    if marks.len() <= i {
+        return t.front();
+    }
+    let m = marks[i];
+    if v < m {
+        return t.front();
+    }
+    m
+}
+
+// Whether v is the start of a record of type kind before the one at own: being below own is not enough.
+fn refers(t: Table, c: &[u8], marks: &[usize], own: usize, v: usize, kind: u16) -> bool
+    requires { ⌜ Marked (meant t) (now c) (now marks) ⌝ }
+    ensures { λ r. ⌜ r ≡ refers (meant t) (now (c .entry)) own v kind ⌝ }
+{
+    if own <= v {
+        return false;
+    }
+    frames::starts(t, c, near(t, c, marks, v), v, kind)
+}
+
 // Whether v is 0, or the start of a record of type kind before the one at own.
-fn refers_or_none(t: Table, c: &[u8], own: usize, v: u32, kind: u16) -> bool
+fn refers_or_none(t: Table, c: &[u8], marks: &[usize], own: usize, v: u32, kind: u16) -> bool
+    requires { ⌜ Marked (meant t) (now c) (now marks) ⌝ }
     ensures { λ r. ⌜ r ≡ isGood (refers (meant t) (now (c .entry)) own) (orNone kind) v ⌝ }
 {
     if v == 0 {
         return true;
     }
-    frames::refers(t, c, own, v as usize, kind)
+    refers(t, c, marks, own, v as usize, kind)
 }
 
 // Whether each of the offsets is the start of a cache's record before the one at own.
-fn links(t: Table, c: &[u8], own: usize, offsets: &[u8]) -> bool
+fn links(t: Table, c: &[u8], marks: &[usize], own: usize, offsets: &[u8]) -> bool
+    requires { ⌜ Marked (meant t) (now c) (now marks) ⌝ }
     ensures { λ r. ⌜ r ≡ linked (refers (meant t) (now (c .entry)) own) (length (now (offsets .entry)) / 4) (now (offsets .entry)) ⌝ }
 {
     let n = offsets.len() / 4;
     let mut i = 0;
     while i < n {
         let v = field::get_u32(offsets, 4 * i) as usize;
-        if !frames::refers(t, c, own, v, CacheNode::TYPE as u16) {
+        if !refers(t, c, marks, own, v, CacheNode::TYPE as u16) {
             return false;
         }
         i += 1;
@@ -57,20 +109,21 @@ fn links(t: Table, c: &[u8], own: usize, offsets: &[u8]) -> bool
 }
 
 // Whether the references of a record are good: a processor's parent and resources, a cache's next level.
-fn refs_good(t: Table, c: &[u8], own: usize, row: Row, body: &[u8]) -> bool
+fn refs_good(t: Table, c: &[u8], marks: &[usize], own: usize, row: Row, body: &[u8]) -> bool
+    requires { ⌜ Marked (meant t) (now c) (now marks) ⌝ }
     ensures { λ r. ⌜ r ≡ refsIn (refers (meant t) (now (c .entry)) own) (rowMeant row) (now (body .entry)) ⌝ }
 {
     match row {
         Row::Processors => {
             let parent = field::get_u32(body, 8);
-            if !refers_or_none(t, c, own, parent, ProcessorNode::TYPE as u16) {
+            if !refers_or_none(t, c, marks, own, parent, ProcessorNode::TYPE as u16) {
                 return false;
             }
-            links(t, c, own, field::rest(body, ProcessorNode::LEN))
+            links(t, c, marks, own, field::rest(body, ProcessorNode::LEN))
         }
         Row::Caches => {
             let next_level = field::get_u32(body, 8);
-            refers_or_none(t, c, own, next_level, CacheNode::TYPE as u16)
+            refers_or_none(t, c, marks, own, next_level, CacheNode::TYPE as u16)
         }
         Row::Memories => true,
         Row::Initiators => true,
@@ -89,7 +142,8 @@ enum Step {
 }
 
 // The judgement of the record at a place.
-fn judge(t: Table, c: &[u8], revision: u8, mask: u32, p: usize) -> Step
+fn judge(t: Table, c: &[u8], marks: &[usize], revision: u8, mask: u32, p: usize) -> Step
+    requires { ⌜ Marked (meant t) (now c) (now marks) ⌝ }
     ensures { λ r. ⌜ stepAs r ≡ judgedAt (meant t) (now (c .entry)) revision mask p ⌝ }
 {
     let s = field::rest(c, p);
@@ -101,7 +155,7 @@ fn judge(t: Table, c: &[u8], revision: u8, mask: u32, p: usize) -> Step
     if !rows::sound(row, body) {
         return Step::Refused(Refusal::BadRecord(p));
     }
-    if !refs_good(t, c, p, row, body) {
+    if !refs_good(t, c, marks, p, row, body) {
         return Step::Refused(Refusal::BadRef(p));
     }
     Step::Next(p + body.len())
@@ -119,8 +173,10 @@ fn scan(t: Table, c: &[u8], revision: u8, mask: u32) -> Accepted
 {
     let mut p = t.front();
     let mut count = 0;
+    let mut marks = [t.front(); MARKS];
     while p < c.len() {
-        match judge(t, c, revision, mask, p) {
+        mark(t, c, &mut marks, p);
+        match judge(t, c, &marks, revision, mask, p) {
             Step::Next(q) => {
                 p = q;
                 count += 1;

@@ -1,19 +1,19 @@
 -- Writing list after list: what is still to come is laid over what there is; calls as numbers at their widths, and lists of a layout turn by turn.
 use mathlib.Core.Path.{_≡_, refl, sym, ap, subst, _∙_}
-use Prim.Native.Nat.{ℕ, suc, _+_, _-_, _≤_, _<_}
+use Prim.Native.Nat.{ℕ, zero, suc, _+_, _*_, _-_, _/_, _%_, _≤_, _<_}
 use mathlib.Core.List.{List, [], _∷_, _++_, append-nil, map}
 use native.Mathlib.Omega.{arith}
 use native.Mathlib.Numerals.{add-one}
-use native.Mathlib.Nat.{mod-eq-of-lt}
-use lib.ListN.{length, replicate, length-append}
+use native.Mathlib.Nat.{mod-eq-of-lt, add-comm, mul-zero, mul-suc}
+use lib.ListN.{length, replicate, set, length-append}
 use lib.Dec.{eqb}
 use Rattle.format.specs.Bytes.{pick, value, part, le, join, over}
-use Rattle.format.specs.Layout.{Item, fld, wide, takenWith, asIs, width}
+use Rattle.format.specs.Layout.{Item, fld, to, wide, takenWith, asIs, width}
 use Rattle.format.specs.Kind.{Kind, Processor, Resource, Cache, Memory, Acpi, Pci, Rintc, Domain, Matrix, Initiator, Target, Cell, Side, Handle, kindNumber, body}
 use Rattle.format.specs.Normal.{call, each, eachSet}
 use Rattle.laws.specs.Numbers.{numbers}
 use Rattle.laws.specs.Offsets.{fieldsAt}
-use Rattle.laws.proofs.Bytes.{over-over, over-none, length-over}
+use Rattle.laws.proofs.Bytes.{over-over, over-next, over-none, over-past, over-one, length-over}
 use Rattle.laws.proofs.Lays.{length-lay}
 use Rattle.laws.proofs.Joins.{lay-join}
 use Rattle.readout.specs.Laid.{Laid}
@@ -78,6 +78,18 @@ length-call k vs = ap suc (length-lay asIs (body k) vs)
 pub call-laid : (k : Kind) (vs a b : List ℕ) (p q : ℕ) → b ≡ over a p (join (1 ∷ map wide (body k)) (kindNumber k ∷ numbers asIs (body k) vs)) → q ≡ p + suc (width (body k)) → Laid a b p (call k vs) q
 call-laid k vs a b p q e n = record { bytes = rw (call-join k vs) e; next = rw (length-call k vs) n }
 
+-- a cell byte by byte
+pub cell-bytes : (i j v : ℕ) (a : List ℕ) (p : ℕ) → v < 65536
+    → set (set (set (set (set a p 52) (p + 1) (i % 256)) (p + 2) (j % 256)) (p + 3) (v % 256)) (p + 4) (v / 256) ≡ over a p (call Cell (i ∷ j ∷ v ∷ []))
+unfolding join le body
+cell-bytes i j v a p h =
+    let hi : v / 256 < 256 = omega arith in
+    let one = over-one a p 52 in
+    let two = over-next a p _ _ (p + 1) _ _ one (over-one _ (p + 1) (i % 256)) refl in
+    let three = over-next a p _ _ (p + 2) _ _ two (over-one _ (p + 2) (j % 256)) refl in
+    let four = over-next a p _ _ (p + 3) _ _ three (over-one _ (p + 3) (v % 256)) refl in
+    rw (call-join Cell (i ∷ j ∷ v ∷ []), mod-eq-of-lt hi) (over-next a p _ _ (p + 4) _ _ four (over-one _ (p + 4) (v / 256)) refl)
+
 -- the same of a setting, whose kind is any byte
 pub setting-laid : (kind j v : ℕ) (a b : List ℕ) (p : ℕ) → kind < 256 → b ≡ over a p (join (1 ∷ 1 ∷ 4 ∷ []) (kind ∷ j ∷ v ∷ [])) → Laid a b p (setting kind j v) (p + 6)
 unfolding join le width
@@ -123,6 +135,15 @@ module _ {a b ys : List ℕ} {at p : ℕ} (g : ℕ → ℕ) (it : Item) (bs : Li
   pub set-laid : (s : ℕ → ℕ → List ℕ) (u : ℕ) → n ≤ i → Coming a at ys b p (eachSet s u i (fieldsAt g (replicate (n - i) it) bs q)) → Laid a b at ys p
   unfolding eachSet
   set-laid s u l m = all-laid (rw (list-end g it bs n i q l) at m)
+
+-- where there is no room nothing is written
+pub unlaid : (a : List ℕ) (p : ℕ) (xs : List ℕ) (q : ℕ) → length a ≤ p → q ≡ p + length xs → Laid a a p xs q
+unlaid a p xs q l e = record { bytes = sym (over-past a p xs l); next = e }
+
+pub length-each : (k : Kind) (g : ℕ → ℕ) (y n : ℕ) (bs : List ℕ) (p : ℕ) → length (each k (fieldsAt g (replicate n (to y)) bs p)) ≡ suc (width (body k)) * n
+unfolding each
+length-each k g y zero bs p = sym (mul-zero _)
+length-each k g y (suc n) bs p = rw (length-append, length-call, length-each k g y n bs (p + 4), mul-suc) (add-comm _ _)
 
 -- nothing is laid
 pub none-laid : (a : List ℕ) (p : ℕ) → Laid a a p [] p

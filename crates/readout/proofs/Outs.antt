@@ -18,9 +18,10 @@ use Rattle.format.specs.Read.{typeIn, framed, Frames, Seen, seenAs, entryOf, wa
 use Rattle.format.specs.Out.{every, nodesFrom}
 use Rattle.laws.proofs.Good.{knows-every}
 use Rattle.laws.proofs.Masks.{walk-first}
-use Rattle.frames.proofs.Places.{framed-then, ahead, recordAt, next, ahead-end, ahead-bad, ahead-next, lt-or-le}
-use Rattle.readout.specs.Places.{ordinalIn, ordinalAt, callsIn, callsAs, isRow, callsFrom, unlessUnknown}
-use Rattle.readout.proofs.Ordinals.{ordinal-past, ordinal-next}
+use Rattle.frames.specs.Frames.{ahead}
+use Rattle.frames.proofs.Places.{framed-then, recordAt, next, ahead-end, ahead-bad, ahead-next, lt-or-le}
+use Rattle.readout.specs.Places.{ordinalAt, callsIn, callsAs, isRow, callsFrom, unlessUnknown}
+use Rattle.readout.proofs.Ordinals.{Agrees, agrees-here, agrees-next}
 
 -- fields are the same where references are read the same
 fields-same : (g h : ℕ → ℕ) → ((v : ℕ) → g v ≡ h v) → (is : List Item) (bs : List ℕ) → fieldsWith g is bs ≡ fieldsWith h is bs
@@ -33,21 +34,8 @@ fields-same g h e (to y ∷ is) bs = rw (fields-same g h e is (drop 4 bs), e)
 fields-same g h e (orNone y ∷ is) bs = rw (fields-same g h e is (drop 4 bs), e)
 
 module _ (t : Table) (rev : ℕ) (c : List ℕ) where
-  -- the walk of ordinals has come to p past these entries
-  abbrev pub Agrees : ℕ → List Entry → Type 0
-  Agrees p es = (own v : ℕ) → p ≤ own → ordinalAt t c own v ≡ ordinalIn own v (suc (length es)) (ordinalOf es v) (ahead t c p)
-
   abbrev pub Out : ℕ → List Node → Answer (List Node) → Type 0
   Out p ns a = andThen a (λ ms. given (callsOf ms)) ≡ unlessUnknown t rev (callsOf ns ++ callsFrom t rev (ordinalAt t c) (ahead t c p)) (ahead t c p)
-
-  agrees-here : (p : ℕ) (es : List Entry) → Agrees p es → (v : ℕ) → ordinalAt t c p v ≡ ordinalOf es v
-  agrees-here p es a v = a p v (omega arith) ∙ ordinal-past t p v (suc (length es)) (ordinalOf es v) c p (omega arith)
-
-  agrees-next : (p ty n : ℕ) (es : List Entry) → framed t (drop p c) ≡ true → Agrees p es → Agrees (next t c p) (record { offset = p; type = ty; length = n } ∷ es)
-  unfolding ordinalOf
-  agrees-next p ty n es f a own v l =
-      let F = framed-then t (drop p c) f in
-      a own v (omega arith) ∙ ordinal-next t own v (suc (length es)) (ordinalOf es v) c p (omega (arith, F .some, F .long)) f
 
   out-end : (p : ℕ) (es : List Entry) (ns : List Node) (ss : List Seen) → length c ≤ p → walk t rev every es (ahead t c p) ≡ given ss → Out p ns (nodesFrom es ns ss)
   unfolding walk nodesFrom unlessUnknown callsFrom
@@ -65,7 +53,7 @@ module _ (t : Table) (rev : ℕ) (c : List ℕ) where
   out-step (some r) p bs ns g h F more fs e ih =
       rw (knows-every r, fields-same g h e (layout (formIn r bs)) bs) (ih (nodeAt h (formIn r bs) bs) ∙ rw append-assoc)
 
-  pub out-all : (k p : ℕ) (es : List Entry) (ns : List Node) (ss : List Seen) → length c ≤ p + k → Agrees p es → walk t rev every es (ahead t c p) ≡ given ss → Out p ns (nodesFrom es ns ss)
+  pub out-all : (k p : ℕ) (es : List Entry) (ns : List Node) (ss : List Seen) → length c ≤ p + k → Agrees t c p es → walk t rev every es (ahead t c p) ≡ given ss → Out p ns (nodesFrom es ns ss)
   unfolding walk nodesFrom unlessUnknown callsFrom
   out-all zero p es ns ss l a w = out-end p es ns ss (omega arith) w
   out-all (suc k) p es ns ss l a w =
@@ -75,7 +63,7 @@ module _ (t : Table) (rev : ℕ) (c : List ℕ) where
       bs = recordAt t c p
 
       by : p < length c → (x : Bool) → framed t (drop p c) ≡ x
-          → ((es : List Entry) (ns : List Node) (ss : List Seen) → length c ≤ next t c p + k → Agrees (next t c p) es → walk t rev every es (ahead t c (next t c p)) ≡ given ss → Out (next t c p) ns (nodesFrom es ns ss))
+          → ((es : List Entry) (ns : List Node) (ss : List Seen) → length c ≤ next t c p + k → Agrees t c (next t c p) es → walk t rev every es (ahead t c (next t c p)) ≡ given ss → Out (next t c p) ns (nodesFrom es ns ss))
           → Out p ns (nodesFrom es ns ss)
       by m false f ih = absurd (let z : refused 25 p ≡ given ss = rw (ahead-bad t c p m f) at w in let o : _≡_ {A = ℕ} 0 1 = cc in omega arith)
       by m true f ih =
@@ -83,8 +71,8 @@ module _ (t : Table) (rev : ℕ) (c : List ℕ) where
           let fs = ahead t c (next t c p) in
           let es′ = entryOf (seenAs t rev every p bs) ∷ es in
           let (ss′, fine, rest, is) = walk-first t rev every es p bs fs (rw (ahead-next t c p f) at w) in
-          let a′ = agrees-next p (typeIn t bs) (length bs) es f a in
+          let a′ = agrees-next t c p (typeIn t bs) (length bs) es f a in
           let l′ : length c ≤ next t c p + k = omega (arith, F .some, F .long) in
           rw (← is, ahead-next t c p f)
-          (out-step (rowOf t rev (typeIn t bs) bs) p bs ns (ordinalAt t c p) (ordinalOf es) (λ ms. nodesFrom es′ ms ss′) (callsFrom t rev (ordinalAt t c) fs) fs (agrees-here p es a)
+          (out-step (rowOf t rev (typeIn t bs) bs) p bs ns (ordinalAt t c p) (ordinalOf es) (λ ms. nodesFrom es′ ms ss′) (callsFrom t rev (ordinalAt t c) fs) fs (agrees-here t c p es a)
           (λ n. ih es′ (n ∷ ns) ss′ l′ a′ rest))

@@ -2,26 +2,36 @@
 use mathlib.Core.Path.{_≡_, refl, sym, ap, _∙_}
 use Prim.Native.Nat.{ℕ, zero, suc, _+_, _*_, _/_, _%_, _≤_, _<_}
 use mathlib.Core.List.{List, [], _∷_, _++_, append-assoc}
+use mathlib.Core.Bool.{Bool, true, false}
 use native.Mathlib.Omega.{arith}
-use native.Mathlib.Nat.{mul-zero, mul-le-mul}
+use native.Mathlib.Nat.{add-zero, mul-zero, mul-le-mul, div-add-mod, mul-add-div, mul-add-mod-self-left, div-self, mod-self, div-eq-of-lt, mod-eq-of-lt, mod-lt}
+use borrow.Author.Tests.{eqb-true, eqb-false}
 use lib.Dec.{eqb}
 use lib.Seq.{take-at, drop-at, drop-drop}
-use lib.ListN.{length, drop, replicate, replicate-append-replicate}
+use lib.ListN.{length, length-append, take, drop, replicate, replicate-append-replicate}
 use Rattle.format.specs.Bytes.{pick, value, part}
-use Rattle.format.specs.Layout.{Item, fld, asIs}
-use Rattle.format.specs.Form.{Form, acpi, pci, layout}
+use Rattle.format.specs.Layout.{Item, fld, to, asIs, width}
+use Rattle.format.specs.Form.{Form, processor, acpi, pci, layout}
 use Rattle.format.specs.Row.{initiators, formIn}
-use Rattle.format.specs.Kind.{Cell, body}
-use Rattle.format.specs.Normal.{call, eachSet, settings, calls}
+use Rattle.format.specs.Kind.{Processor, Resource, Cell, body}
+use Rattle.format.specs.Normal.{call, each, eachSet, settings, calls}
 use Rattle.laws.specs.Offsets.{fieldsAt}
 use Rattle.laws.proofs.Bytes.{value-byte}
 use Rattle.laws.proofs.Offsets.{fields-at}
 use Rattle.readout.specs.Places.{setting, callsIn}
+use Rattle.readout.proofs.Lists.{length-call, length-each}
 
 -- the calls of a record are those of its fields by their places
 pub calls-at : (g : ℕ → ℕ) (f : Form) (bs : List ℕ) → callsIn g f bs ≡ calls f (fieldsAt g (layout f) bs 0)
 unfolding callsIn
 calls-at g f bs = ap (calls f) (fields-at g (layout f) bs 0)
+
+-- a processor's calls are as long whatever its references are
+pub length-processor : (g : ℕ → ℕ) (n : ℕ) (bs : List ℕ) → length (callsIn g (processor n) bs) ≡ 13 + 5 * n
+unfolding calls layout body width
+length-processor g n bs =
+    let a = length-append (call Processor (take 3 (fieldsAt g (layout (processor n)) bs 0))) (each Resource (fieldsAt g (replicate n (to 1)) bs 20)) in
+    rw (calls-at g (processor n) bs) (a ∙ rw (length-call Processor (take 3 (fieldsAt g (layout (processor n)) bs 0)), length-each Resource g 1 n bs 20))
 
 -- in a list of plain numbers there is no reference
 pub list-plain : (g : ℕ → ℕ) (n w : ℕ) (bs : List ℕ) (p : ℕ) → fieldsAt g (replicate n (fld w)) bs p ≡ fieldsAt asIs (replicate n (fld w)) bs p
@@ -74,3 +84,20 @@ some-targets i (suc t) h = omega arith
 
 pub few-cells : (i t : ℕ) → i ≤ 255 → t ≤ 255 → i * t ≤ 65025
 few-cells i t a b = mul-le-mul a b
+
+-- row and column of the next cell
+pub next-cell : (t e : ℕ) → 0 < t → (pick (eqb (e % t + 1) t) (e / t + 1) (e / t) ≡ (e + 1) / t) × (pick (eqb (e % t + 1) t) 0 (e % t + 1) ≡ (e + 1) % t)
+next-cell t e h =
+    let s : e + 1 ≡ t * (e / t) + (e % t + 1) = omega (arith, div-add-mod e t) in
+    let d : (e + 1) / t ≡ e / t + (e % t + 1) / t = rw s (mul-add-div h (e / t) (e % t + 1)) in
+    let m : (e + 1) % t ≡ (e % t + 1) % t = rw s (mul-add-mod-self-left t (e / t) (e % t + 1)) in
+    by (eqb (e % t + 1) t) refl d m
+  where
+    by : (x : Bool) → eqb (e % t + 1) t ≡ x → (e + 1) / t ≡ e / t + (e % t + 1) / t → (e + 1) % t ≡ (e % t + 1) % t
+        → (pick x (e / t + 1) (e / t) ≡ (e + 1) / t) × (pick x 0 (e % t + 1) ≡ (e + 1) % t)
+    by true q d m =
+        let z = eqb-true (e % t + 1) t q in
+        (sym (d ∙ rw (z, div-self h)), sym (m ∙ rw (z, mod-self)))
+    by false q d m =
+        let l : e % t + 1 < t = omega (arith, mod-lt e h, eqb-false (e % t + 1) t q) in
+        (sym (d ∙ rw (div-eq-of-lt l, add-zero)), sym (m ∙ mod-eq-of-lt l))

@@ -14,8 +14,8 @@ use Rattle.format.specs.Row.{Row, matrices, home, rowType, column, matches, row
 use Rattle.format.specs.Read.{typeIn, framed}
 use Rattle.laws.proofs.Lays.{both-true}
 use Rattle.laws.proofs.Masks.{row-then}
-use Rattle.frames.specs.Frames.{recordIn}
-use Rattle.frames.proofs.Places.{framed-then, ahead, recordAt, next, ahead-end, ahead-bad, ahead-next, room}
+use Rattle.frames.specs.Frames.{ahead, recordIn}
+use Rattle.frames.proofs.Places.{framed-then, recordAt, next, ahead-end, ahead-bad, ahead-next, room}
 use Rattle.readout.specs.Laid.{Laid}
 use Rattle.readout.specs.Places.{Small, ordinalAt, callsAs, isRow, callsFrom, unlessUnknown, callsAt, measured}
 use Rattle.readout.proofs.Lists.{Coming, all-coming, all-laid, come}

@@ -10,7 +10,7 @@ use lib.Dec.{eqb}
 use Rattle.format.specs.Bytes.{pick, Answer, refused, given, andThen, ofGiven, at, part}
 use Rattle.format.specs.Table.{Table, front, limit, revision}
 use Rattle.format.specs.Row.{rowOf}
-use Rattle.format.specs.Node.{Node, ordinalOf}
+use Rattle.format.specs.Node.{Node}
 use Rattle.format.specs.Recipe.{means}
 use Rattle.format.specs.Normal.{callsOf, headCall, recipeOf}
 use Rattle.format.specs.Read.{own, lengthIn, typeIn, Frames, ended, badFrame, framedAt, Seen, judgeHead, walked, accept}
@@ -20,8 +20,8 @@ use Rattle.laws.proofs.Bytes.{length-part}
 use Rattle.laws.proofs.Finds.{then-given}
 use Rattle.laws.proofs.Trips.{judged}
 use Rattle.frames.specs.Frames.{framesOf}
-use Rattle.readout.specs.Places.{ordinalAt, isRow, unlessUnknown, callsAt, measured, recipeAs, outAs}
-use Rattle.readout.proofs.Ordinals.{some-front}
+use Rattle.readout.specs.Places.{isRow, unlessUnknown, callsAt, measured, recipeAs, outAs}
+use Rattle.readout.proofs.Ordinals.{some-front, agrees-start}
 use Rattle.readout.proofs.Outs.{out-all}
 
 module _ (t : Table) (rev : ℕ) where
@@ -52,8 +52,8 @@ callsIf a = andThen a (λ ms. given (callsOf ms))
 
 module _ (b : List ℕ) (t : Table) (ss : List Seen) (h : judgeHead b ≡ given t) (w : walked t b every ≡ given ss) where
   nodes-told : callsIf (nodesFrom [] [] ss) ≡ unlessUnknown t (at b 8) (callsAt t (at b 8) (own b)) (framesOf t (own b))
-  unfolding walked callsAt ordinalAt ordinalOf callsOf
-  nodes-told = out-all t (at b 8) (own b) (length (own b)) (front t) [] [] ss (omega arith) (λ own v l. refl) w
+  unfolding walked callsAt callsOf
+  nodes-told = out-all t (at b 8) (own b) (length (own b)) (front t) [] [] ss (omega arith) (agrees-start t (own b)) w
 
   identity-long : length (part b 10 26) ≡ 26
   identity-long =

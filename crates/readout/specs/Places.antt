@@ -1,6 +1,6 @@
 -- A table's recipe by the places of its records: what stands for a reference, and the calls of one record after the other. c: a table's own bytes.
 use mathlib.Core.Path.{_≡_}
-use Prim.Native.Nat.{ℕ, suc, _+_, _≤_}
+use Prim.Native.Nat.{ℕ, _+_, _≤_}
 use mathlib.Core.List.{List, [], _∷_, _++_}
 use mathlib.Core.Bool.{Bool, true, false}
 use mathlib.Core.Option.{Option, none, some}
@@ -15,19 +15,13 @@ use Rattle.format.specs.Normal.{calls, headCall}
 use Rattle.format.specs.Read.{own, typeIn, Frames, ended, badFrame, framedAt}
 use Rattle.format.specs.Build.{fitting}
 use Rattle.format.specs.Out.{headIn}
-use Rattle.frames.specs.Frames.{framesOf}
+use Rattle.frames.specs.Frames.{framesOf, numbered}
 
 -- ---- references
 
--- the how manieth record before the one at own starts at v, counted from k; n where none does
-unfoldable pub ordinalIn : ℕ → ℕ → ℕ → ℕ → Frames → ℕ
-ordinalIn own v k n ended = n
-ordinalIn own v k n (badFrame p) = n
-ordinalIn own v k n (framedAt p bs rest) = pick (ltb p own) (ordinalIn own v (suc k) (pick (eqb p v) k n) rest) n
-
--- the same among the records of a table, counted from 1; 0 for none
+-- the how manieth record starts at v, of those before the one at own; 0 for none
 unfoldable pub ordinalAt : Table → List ℕ → ℕ → ℕ → ℕ
-ordinalAt t c own v = ordinalIn own v 1 0 (framesOf t c)
+ordinalAt t c own v = pick (ltb v own) (numbered 1 v (framesOf t c)) 0
 
 -- ---- records
 

@@ -5,7 +5,7 @@ ghost use mathlib.Core.List.{_∷_, [], _++_};
 ghost use Prim.Native.Nat.{ℕ, _+_, _*_, _-_, _/_, _%_, _≤_, _<_};
 ghost use lib.Dec.{eqb};
 ghost use lib.ListN.{length, replicate};
-ghost use Rattle.format.specs.Bytes.{pick, given, value, part, over};
+ghost use Rattle.format.specs.Bytes.{pick, given, value, part, join, over};
 ghost use Rattle.format.specs.Layout.{asIs, fld, to};
 ghost use Rattle.format.specs.Table.{limit, code};
 ghost use Rattle.format.specs.Read.{own, judgeHead};
@@ -29,32 +29,26 @@ use rows::Row;
 
 // ---- references
 
-fn chosen(from: usize, v: usize, k: usize, other: usize) -> usize
-    ensures { λ r. ⌜ r ≡ pick (eqb from v) k other ⌝ }
-{
-    if from == v {
-        return k;
-    }
-    other
-}
-
 // The how manieth record starts at v, of those before the one at own; 0 for none.
 fn ordinal(t: Table, c: &[u8], own: usize, v: usize) -> usize
     ensures { λ r. ⌜ r ≡ ordinalAt (meant t) (now (c .entry)) own v ⌝ }
 {
-    let mut from = t.front();
-    let mut k = 1;
-    let mut found = 0;
-    while from < own {
-        let s = field::rest(c, from);
-        if !frames::framed(t, s) {
-            return found;
-        }
-        found = chosen(from, v, k, found);
-        from += frames::size_in(t, s);
-        k += 1;
+    if own <= v {
+        return 0;
     }
-    found
+    frames::number(t, c, t.front(), v)
+}
+
+// ---- numbers
+
+// Writes numbers at their widths, where there is room for the first: a walk that measures is spared the rest.
+fn put_fields(out: &mut [u8], at: usize, ws: &[usize], vs: &[u64])
+    ensures { λ _. ⌜ now (out .exit) ≡ over (now (out .entry)) at (join (now (ws .entry)) (now (vs .entry))) ⌝ }
+{
+    if out.len() <= at {
+        return;
+    }
+    field::put_all(out, at, ws, vs);
 }
 
 // ---- lists
@@ -89,7 +83,7 @@ fn put_resources(
     let mut i = 0;
     while i < n {
         let k = ordinal(t, c, own, field::get_u32(body, from) as usize);
-        field::put_all(out, p, &RESOURCE, &[17, k as u64]);
+        put_fields(out, p, &RESOURCE, &[17, k as u64]);
         from += 4;
         p += 5;
         i += 1;
@@ -106,7 +100,7 @@ fn put_handles(body: &[u8], n: usize, out: &mut [u8], at: usize) -> usize
     let mut p = at;
     let mut i = 0;
     while i < n {
-        field::put_all(out, p, &HANDLE, &[54, field::get_u16(body, from) as u64]);
+        put_fields(out, p, &HANDLE, &[54, field::get_u16(body, from) as u64]);
         from += 2;
         p += 3;
         i += 1;
@@ -122,7 +116,7 @@ fn put_value(kind: u8, j: usize, v: u32, out: &mut [u8], at: usize) -> usize
     if v == 0 {
         return at;
     }
-    field::put_all(out, at, &VALUE, &[kind as u64, j as u64, v as u64]);
+    put_fields(out, at, &VALUE, &[kind as u64, j as u64, v as u64]);
     at + 6
 }
 
@@ -142,6 +136,22 @@ fn put_values(kind: u8, body: &[u8], start: usize, n: usize, out: &mut [u8], at:
     p
 }
 
+// A cell, byte by byte where all of it has room: a matrix has up to 65,025 of them.
+fn lay_cell(i: usize, j: usize, v: u16, out: &mut [u8], at: usize)
+    requires { ⌜ at ≤ 3000000000000000 ⌝ }
+    ensures { λ _. ⌜ now (out .exit) ≡ over (now (out .entry)) at (call Cell (i ∷ j ∷ v ∷ [])) ⌝ }
+{
+    if out.len() < at + 5 {
+        put_fields(out, at, &CELL, &[52, i as u64, j as u64, v as u64]);
+        return;
+    }
+    out[at] = 52;
+    out[at + 1] = (i % 256) as u8;
+    out[at + 2] = (j % 256) as u8;
+    out[at + 3] = (v % 256) as u8;
+    out[at + 4] = (v / 256) as u8;
+}
+
 // A cell, unless it is unset.
 fn put_cell(i: usize, j: usize, v: u16, out: &mut [u8], at: usize) -> usize
     requires { ⌜ at ≤ 3000000000000000 ⌝ }
@@ -150,8 +160,30 @@ fn put_cell(i: usize, j: usize, v: u16, out: &mut [u8], at: usize) -> usize
     if v == 65535 {
         return at;
     }
-    field::put_all(out, at, &CELL, &[52, i as u64, j as u64, v as u64]);
+    lay_cell(i, j, v, out, at);
     at + 5
+}
+
+// The row of the cell behind that of row i and column j, of t columns.
+fn next_row(i: usize, j: usize, t: usize) -> usize
+    requires { ⌜ (i ≤ 1000000) × (j ≤ 1000000) ⌝ }
+    ensures { λ r. ⌜ r ≡ pick (eqb (j + 1) t) (i + 1) i ⌝ }
+{
+    if j + 1 == t {
+        return i + 1;
+    }
+    i
+}
+
+// Its column.
+fn next_column(j: usize, t: usize) -> usize
+    requires { ⌜ j ≤ 1000000 ⌝ }
+    ensures { λ r. ⌜ r ≡ pick (eqb (j + 1) t) 0 (j + 1) ⌝ }
+{
+    if j + 1 == t {
+        return 0;
+    }
+    j + 1
 }
 
 // The cells of a matrix of t targets, row by row.
@@ -161,9 +193,13 @@ fn put_cells(body: &[u8], start: usize, t: usize, n: usize, out: &mut [u8], at: 
 {
     let mut from = start;
     let mut p = at;
+    let mut i = 0;
+    let mut j = 0;
     let mut e = 0;
     while e < n {
-        p = put_cell(e / t, e % t, field::get_u16(body, from), out, p);
+        p = put_cell(i, j, field::get_u16(body, from), out, p);
+        i = next_row(i, j, t);
+        j = next_column(j, t);
         from += 2;
         e += 1;
     }
@@ -213,6 +249,9 @@ fn put_processor(t: Table, c: &[u8], own: usize, body: &[u8], out: &mut [u8], at
     requires { ⌜ (length (now body) ≤ limit) × (at ≤ 1500000000000000) ⌝ }
     ensures { λ r. ⌜ Laid (now (out .entry)) (now (out .exit)) at (callsIn (ordinalAt (meant t) (now (c .entry)) own) (formIn processors (now (body .entry))) (now (body .entry))) r × (r ≤ at + 2000000) ⌝ }
 {
+    if out.len() <= at {
+        return at + 13 + 5 * resources(body.len());
+    }
     let parent = ordinal(t, c, own, field::get_u32(body, 8) as usize);
     let vs = [
         16,
@@ -220,7 +259,7 @@ fn put_processor(t: Table, c: &[u8], own: usize, body: &[u8], out: &mut [u8], at
         parent as u64,
         field::get_u32(body, 12) as u64,
     ];
-    field::put_all(out, at, &PROCESSOR, &vs);
+    put_fields(out, at, &PROCESSOR, &vs);
     put_resources(t, c, own, body, resources(body.len()), out, at + 13)
 }
 
@@ -228,6 +267,9 @@ fn put_cache(t: Table, c: &[u8], own: usize, body: &[u8], out: &mut [u8], at: us
     requires { ⌜ at ≤ 1500000000000000 ⌝ }
     ensures { λ r. ⌜ Laid (now (out .entry)) (now (out .exit)) at (callsIn (ordinalAt (meant t) (now (c .entry)) own) cache (now (body .entry))) r × (r ≤ at + 28) ⌝ }
 {
+    if out.len() <= at {
+        return at + 22;
+    }
     let next = ordinal(t, c, own, field::get_u32(body, 8) as usize);
     let vs = [
         18,
@@ -240,7 +282,7 @@ fn put_cache(t: Table, c: &[u8], own: usize, body: &[u8], out: &mut [u8], at: us
         field::get_u16(body, 22) as u64,
         field::get_u32(body, 24) as u64,
     ];
-    field::put_all(out, at, &CACHE, &vs);
+    put_fields(out, at, &CACHE, &vs);
     at + 22
 }
 
@@ -255,7 +297,7 @@ fn put_memory(body: &[u8], out: &mut [u8], at: usize) -> usize
         field::get_u64(body, 16),
         field::get_u32(body, 28) as u64,
     ];
-    field::put_all(out, at, &MEMORY, &vs);
+    put_fields(out, at, &MEMORY, &vs);
     at + 22
 }
 
@@ -270,7 +312,7 @@ fn put_acpi(body: &[u8], out: &mut [u8], at: usize) -> usize
         field::get_u32(body, 16) as u64,
         field::get_u32(body, 24) as u64,
     ];
-    field::put_all(out, at, &ACPI, &vs);
+    put_fields(out, at, &ACPI, &vs);
     at + 18
 }
 
@@ -288,7 +330,7 @@ fn put_pci(body: &[u8], out: &mut [u8], at: usize) -> usize
         devfn % 8,
         field::get_u32(body, 24) as u64,
     ];
-    field::put_all(out, at, &PCI, &vs);
+    put_fields(out, at, &PCI, &vs);
     at + 11
 }
 
@@ -313,7 +355,7 @@ fn put_rintc(body: &[u8], out: &mut [u8], at: usize) -> usize
         field::get_u32(body, 8) as u64,
         field::get_u32(body, 12) as u64,
     ];
-    field::put_all(out, at, &RINTC, &vs);
+    put_fields(out, at, &RINTC, &vs);
     at + 10
 }
 
@@ -326,7 +368,7 @@ fn put_domain(body: &[u8], out: &mut [u8], at: usize) -> usize
         field::get_u32(body, 12) as u64,
         field::get_u32(body, 16) as u64,
     ];
-    field::put_all(out, at, &DOMAIN, &vs);
+    put_fields(out, at, &DOMAIN, &vs);
     at + 9
 }
 
@@ -356,7 +398,7 @@ fn put_matrix(body: &[u8], out: &mut [u8], at: usize) -> usize
         i as u64,
         t as u64,
     ];
-    field::put_all(out, at, &MATRIX, &vs);
+    put_fields(out, at, &MATRIX, &vs);
     put_settings(body, i as usize, t as usize, out, at + 14)
 }
 
@@ -370,7 +412,7 @@ fn put_side(body: &[u8], out: &mut [u8], at: usize) -> usize
         field::get_u64(body, 16),
         field::get_u32(body, 24) as u64,
     ];
-    field::put_all(out, at, &SIDE, &vs);
+    put_fields(out, at, &SIDE, &vs);
     put_handles(body, field::get_u16(body, 30) as usize, out, at + 17)
 }
 

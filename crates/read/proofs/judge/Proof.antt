@@ -25,7 +25,7 @@ returns-2 c =
     let k = s .before in
     let b = k .before .before in
     let f = b .before .before in
-    let a = f .before .before .before .args in
+    let a = f .before .before .before .before .args in
     let j = judged-by (meant (a .t)) (a .c .now) (a .revision) (a .mask) (a .p) _ _ _ _ _ _ _ (f .before .rest .ensures) (b .record-in .ensures) (k .before .row-of .ensures) (k .known .ensures) (f .framed .ensures) (s .sound .ensures) refl in
     sym (j ∙ rw (not-false (f .framed .result) (b .before .if1 .left), not-true (s .sound .result) (c .if2 .taken)))
 
@@ -36,15 +36,15 @@ returns-3 c =
     let k = s .before in
     let b = k .before .before in
     let f = b .before .before in
-    let a = f .before .before .before .args in
+    let a = f .before .before .before .before .args in
     let j = judged-by (meant (a .t)) (a .c .now) (a .revision) (a .mask) (a .p) _ _ _ _ _ _ _ (f .before .rest .ensures) (b .record-in .ensures) (k .before .row-of .ensures) (k .known .ensures) (f .framed .ensures) (s .sound .ensures) (g .refs-good .ensures) in
     sym (j ∙ rw (not-false (f .framed .result) (b .before .if1 .left), not-false (s .sound .result) (g .before .if2 .left), not-true (g .refs-good .result) (c .if3 .taken)))
 
-add-next : tie.Need-add-t16
+add-next : tie.Need-add-t17
 add-next c =
     let b = c .before .before .before .before .before .before in
     let f = b .before .before in
-    let a = f .before .before .before .args in
+    let a = f .before .before .before .before .args in
     let y : framed (meant (a .t)) (drop (a .p) (a .c .now)) ≡ true = rw (← f .before .rest .ensures, ← f .framed .ensures) (not-false (f .framed .result) (b .before .if1 .left)) in
     omega (arith, ap length (rw (f .before .rest .ensures) at (b .record-in .ensures)), room (meant (a .t)) (a .c .now) (a .p) y .1)
 
@@ -55,7 +55,7 @@ returns-4 c =
     let k = s .before in
     let b = k .before .before in
     let f = b .before .before in
-    let a = f .before .before .before .args in
+    let a = f .before .before .before .before .args in
     let j = judged-by (meant (a .t)) (a .c .now) (a .revision) (a .mask) (a .p) _ _ _ _ _ _ _ (f .before .rest .ensures) (b .record-in .ensures) (k .before .row-of .ensures) (k .known .ensures) (f .framed .ensures) (s .sound .ensures) (g .refs-good .ensures) in
     sym (j ∙ rw (not-false (f .framed .result) (b .before .if1 .left), not-false (s .sound .result) (g .before .if2 .left), not-false (g .refs-good .result) (c .if3 .left)))
 

@@ -14,17 +14,17 @@ use Rattle.read.proofs.links.Statement.{statement}
 use Rattle.read.proofs.links.Tie as tie
 
 abbrev Inv-loop : tie.InvT-loop
-Inv-loop t c own offsets n i₀ i =
+Inv-loop t c marks own offsets n i₀ i =
     (i ≤ n) × (linked (refers (meant t) c own) n offsets ≡ linked (refers (meant t) c own) (n - i) (drop (4 * i) offsets))
 
 abbrev μ-loop : tie.MeasureT-loop
-μ-loop t c own offsets n i₀ i = n - i
+μ-loop t c marks own offsets n i₀ i = n - i
 
 returns : tie.Need-returns Inv-loop μ-loop
 returns c =
     let r = c .before in
     let l = r .before .before .before in
-    let a = l .before .before .before .args in
+    let a = l .before .before .before .before .args in
     let turn = linked-turn (refers (meant (a .t)) (a .c .now) (a .own)) _ (l .loop .i) (a .offsets .now) (r .before .before .loop-test .taken) in
     sym (l .loop .inv .1 ∙ turn ∙ rw (← r .before .get-u32 .ensures, ← r .refers .ensures, not-true (r .refers .result) (c .if1 .taken)))
 
@@ -32,14 +32,14 @@ loop-again : tie.Need-loop-again Inv-loop μ-loop
 loop-again c =
     let r = c .before in
     let l = r .before .before .before in
-    let a = l .before .before .before .args in
+    let a = l .before .before .before .before .args in
     let turn = linked-turn (refers (meant (a .t)) (a .c .now) (a .own)) _ (l .loop .i) (a .offsets .now) (r .before .before .loop-test .taken) in
     (omega arith, l .loop .inv .1 ∙ turn ∙ rw (← r .before .get-u32 .ensures, ← r .refers .ensures, not-false (r .refers .result) (c .if1 .left)))
 
 returns-2 : tie.Need-returns-2 Inv-loop μ-loop
 returns-2 c =
     let l = c .before in
-    let a = l .before .before .before .args in
+    let a = l .before .before .before .before .args in
     sym (l .loop .inv .1 ∙ linked-end (refers (meant (a .t)) (a .c .now) (a .own)) _ (l .loop .i) _ (c .loop-test .left))
 
 pub links-spec : {M : Type 1} → statement M

@@ -36,7 +36,7 @@ loop-again c =
       omega arith,
       omega arith,
       omega arith,
-      come-each asIs (fld 2) _ _ _ _ Handle (l .loop-test .taken) (ap (λ (x : ℕ). x ∷ []) (sym (g .get-u16 .ensures))) (call-laid Handle _ _ _ _ _ (v .put-all .ensures) refl) (l .before .loop .inv .3),
+      come-each asIs (fld 2) _ _ _ _ Handle (l .loop-test .taken) (ap (λ (x : ℕ). x ∷ []) (sym (g .get-u16 .ensures))) (call-laid Handle _ _ _ _ _ (v .put-fields .ensures) refl) (l .before .loop .inv .3),
     )
 
 laid : tie.Need-same-length Inv-loop μ-loop

@@ -19,7 +19,7 @@ returns c =
     let v = x .before .before .before .before in
     let m = v .before .before .before .before .before .before .before .before in
     let g = v .before .before .before .before in
-    let e = rw (g .get-u64 .ensures, g .before .get-u83 .ensures, g .before .before .get-u82 .ensures, g .before .before .before .get-u8 .ensures) at (v .put-all .ensures) in
+    let e = rw (g .get-u64 .ensures, g .before .get-u83 .ensures, g .before .before .get-u82 .ensures, g .before .before .before .get-u8 .ensures) at (v .put-fields .ensures) in
     (λ h. rw (calls-at h, ← m .get-u322 .ensures, ← m .before .get-u32 .ensures) (laid-on (call-laid Matrix _ _ _ _ _ e refl) (x .put-settings .ensures .0 h)), omega arith)
 
 pub put-matrix-spec : {M : Type 1} → statement M

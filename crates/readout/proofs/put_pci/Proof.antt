@@ -16,7 +16,7 @@ unfolding calls layout body width
 returns c =
     let v = c .before .before in
     let g = v .before .before .before .before in
-    let e = rw (g .get-u322 .ensures, g .before .get-u82 .ensures, g .before .before .get-u16 .ensures, g .before .before .before .get-u32 .ensures, g .before .before .before .before .get-u8 .ensures) at (v .put-all .ensures) in
+    let e = rw (g .get-u322 .ensures, g .before .get-u82 .ensures, g .before .before .get-u16 .ensures, g .before .before .before .get-u32 .ensures, g .before .before .before .before .get-u8 .ensures) at (v .put-fields .ensures) in
     (λ g. rw (calls-at g pci) (call-laid Pci _ _ _ _ _ e refl), omega arith)
 
 pub put-pci-spec : {M : Type 1} → statement M

@@ -39,7 +39,7 @@ loop-again c =
       omega arith,
       omega arith,
       omega arith,
-      come-each _ (to 1) _ _ _ _ Resource (l .loop-test .taken) (ap (λ (x : ℕ). x ∷ []) (sym (o .ordinal .ensures ∙ rw (g .get-u32 .ensures)))) (call-laid Resource _ _ _ _ _ (v .put-all .ensures) refl) (l .before .loop .inv .3),
+      come-each _ (to 1) _ _ _ _ Resource (l .loop-test .taken) (ap (λ (x : ℕ). x ∷ []) (sym (o .ordinal .ensures ∙ rw (g .get-u32 .ensures)))) (call-laid Resource _ _ _ _ _ (v .put-fields .ensures) refl) (l .before .loop .inv .3),
     )
 
 laid : tie.Need-same-length Inv-loop μ-loop

@@ -20,7 +20,7 @@ returns c =
     let v = n .before .before .before in
     let g = v .before .before .before .before in
     let b = g .before .before .before .before .before .args .body .now in
-    let e = rw (g .get-u322 .ensures, g .before .get-u64 .ensures, g .before .before .get-u32 .ensures) at (v .put-all .ensures) in
+    let e = rw (g .get-u322 .ensures, g .before .get-u64 .ensures, g .before .before .get-u32 .ensures) at (v .put-fields .ensures) in
     (λ g. rw (calls-at g, ← n .get-u16 .ensures, list-plain g (n .get-u16 .result) 2 b 32) (laid-on (call-laid Side _ _ _ _ _ e refl) (x .put-handles .ensures .0)), omega arith)
 
 pub put-side-spec : {M : Type 1} → statement M

@@ -13,7 +13,7 @@ returns-2 : tie.Need-returns-2
 returns-2 c =
     let s = c .before .before .before .before .before .before in
     let a = s .before .before .args in
-    (rw (ne-eqb _ _ (s .if1 .left)) (setting-laid (a .kind) (a .j) (a .v) _ _ _ (search needs) (c .before .before .put-all .ensures)), omega arith)
+    (rw (ne-eqb _ _ (s .if1 .left)) (setting-laid (a .kind) (a .j) (a .v) _ _ _ (search needs) (c .before .before .put-fields .ensures)), omega arith)
 
 pub put-value-spec : {M : Type 1} → statement M
 put-value-spec =
