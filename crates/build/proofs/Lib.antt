@@ -4,7 +4,9 @@ pub mod Agrees
 pub mod Sums
 pub mod Headers
 pub mod Turns
+pub mod Names
 pub mod Whole
 pub mod Steps
+pub mod Cells
 pub mod Answers
 pub mod Unique

@@ -1,5 +1,5 @@
 -- A turn of the pass keeps what the buffer and the numbers hold: the start, one record, and the end.
-use mathlib.Core.Path.{_≡_, sym, ap, _∙_}
+use mathlib.Core.Path.{_≡_, refl, sym, ap, _∙_}
 use Prim.Native.Nat.{ℕ, suc, _+_, _%_, _≤_, _<_}
 use mathlib.Core.List.{List, [], _∷_, _++_, append-assoc, append-nil}
 use mathlib.Core.Option.{none, some}
@@ -9,26 +9,30 @@ use native.Mathlib.Nat.{zero-add}
 use lib.ListN.{length, drop, getD, length-append, length-drop, drop-of-length-le}
 use Rattle.format.specs.Bytes.{Bytes, le, part, over, sum, given}
 use Rattle.format.specs.Layout.{width, fields}
-use Rattle.format.specs.Table.{Table, front, limit}
+use Rattle.format.specs.Table.{Table, pptt, front, limit}
 use Rattle.format.specs.Node.{Node, sizes}
 use Rattle.format.specs.Kind.{Kind, kindOf, body}
 use Rattle.format.specs.Recipe.{Meaning, means, cut, added, meaning}
 use Rattle.format.specs.Build.{records, header, checkOf, summed, tableFrom, table}
-use Rattle.laws.proofs.Bytes.{bytes-drop, length-part, sum-append}
+use Rattle.laws.proofs.Bytes.{bytes-drop, length-part, length-over, sum-append}
 use Rattle.laws.proofs.Lays.{Fit}
 use Rattle.laws.proofs.Heads.{length-records, length-header}
 use Rattle.laws.proofs.Good.{Good}
 use Rattle.laws.proofs.Grows.{passed, kindHome, grows}
 use Rattle.laws.proofs.Builds.{body-fits, kind-home}
+use Rattle.recipe.specs.Machine.{refers}
+use Rattle.build.specs.declared.Marks.{Marks}
 use Rattle.build.specs.declared.State.{State}
 use Rattle.build.specs.declared.Change.{Change}
 use Rattle.build.specs.Write.{changeOf, wrote}
-use Rattle.build.specs.Held.{headIn, frontOf, Held, Ready, Small, Builds}
+use Rattle.build.specs.Held.{headIn, frontOf, Marked, Leads, Reaches, Keeps, Held, Ready, Small, Builds}
 use Rattle.build.proofs.Numbers.{front-small, front-long}
 use Rattle.build.proofs.Headers.{header-any, finished}
 use Rattle.build.proofs.Sums.{part-laid, sum-front, sum-moves}
 use Rattle.build.proofs.Turns.{Laid, Turned, turned}
 use Rattle.build.proofs.Whole.{Turn, turn, turn-as, run-keeps, run-end, from-head}
+use Rattle.build.proofs.Walks.{reaches, reaches-older, marked-newer, marked-leads}
+use Rattle.build.proofs.Names.{names-pptt, older-added, refers-below}
 
 pub length-front : (t : Table) (r : List ℕ) (n : ℕ) → 28 ≤ length r → length (frontOf t r n) ≡ front t
 length-front t r n h = length-header (headIn t r) 0 n 0 (length-part r 2 26 (omega arith))
@@ -127,17 +131,45 @@ module _ (xs r : List ℕ) (t : Table) (m : Meaning) (s : State) (out : List ℕ
         let a = run-keeps (headIn t r) (found .since) (added k vs (h .nodes)) (cut t 0 (suc (s .at) + width (body k)) (drop (suc (s .at) + width (body k)) r)) m (found .leads) .1 in
         omega (arith, h .space, laid .long)
 
+    -- the bytes that change stand in the buffer
+    pub in-buffer : changeOf k s vs .from + changeOf k s vs .len ≤ length out
+    in-buffer = rw (h .held, length-over) (omega (arith, turns .from, turns .len, lengths turns (h .held) more-room .0, laid .long, held-room))
+
     pub longer : s .end + changeOf k s vs .more ≡ front t + sizes (added k vs (h .nodes))
     longer = omega (arith, grown-by turns (h .held) more-room, h .ends)
 
     pub short : s .end + changeOf k s vs .more ≤ limit
     short = omega (arith, longer, passed t (h .nodes) k vs (found .sound) .short)
 
-    pub goes : (s′ : State) (w : ℕ) → s′ .at ≡ suc (s .at) + width (body k) → s′ .end ≡ s .end + changeOf k s vs .more → s′ .latest ≡ changeOf k s vs .latest
+    -- what the marks lead to, if the record has a reference
+    reached : (refers k (drop (suc (s .at)) r) ≡ 0 → ⊥) → Reaches out (h .nodes)
+    reached z = reaches t xs fs (h .nodes) out (sym own ∙ names-pptt k (drop (suc (s .at)) r) z) (laid .long) held-room (h .good) (h .held)
+
+    pub leading : (refers k (drop (suc (s .at)) r) ≡ 0 → ⊥) → Leads out (s .marks .parent) × Leads out (s .marks .cache)
+    leading z =
+        let e : t ≡ pptt = sym own ∙ names-pptt k (drop (suc (s .at)) r) z in
+        let es = drop 1 (h .nodes) in
+        let d = reaches-older out (h .nodes) (reached z) in
+        let l : front t + sizes es ≤ limit = omega (arith, older t (h .nodes), h .short) in
+        let l′ : 36 + sizes es ≤ limit = rw e at l in
+        (marked-leads out es (s .marks .parent) l′ d (h .parent), marked-leads out es (s .marks .cache) l′ d (h .cache))
+
+    -- the marks of the state after it
+    module _ (ms : Marks) (kept : Keeps out (refers k (drop (suc (s .at)) r)) (s .marks) ms) where
+      marked : Marked (drop 1 (added k vs (h .nodes))) (ms .parent) × Marked (drop 1 (added k vs (h .nodes))) (ms .cache)
+      marked =
+          let y = passed t (h .nodes) k vs (found .sound) in
+          let p = y .place in
+          kept (drop 1 (added k vs (h .nodes)))
+          (λ z. (refers-below t k (drop (suc (s .at)) r) (h .nodes) y, older-added (Reaches out) k vs (h .nodes) p (reached z) (reaches-older out (h .nodes) (reached z))))
+          (older-added (λ es. Marked es (s .marks .parent)) k vs (h .nodes) p (marked-newer (h .nodes) (s .marks .parent) (h .parent)) (h .parent))
+          (older-added (λ es. Marked es (s .marks .cache)) k vs (h .nodes) p (marked-newer (h .nodes) (s .marks .cache) (h .cache)) (h .cache))
+
+    pub goes : (s′ : State) (w : ℕ) → Keeps out (refers k (drop (suc (s .at)) r)) (s .marks) (s′ .marks) → s′ .at ≡ suc (s .at) + width (body k) → s′ .end ≡ s .end + changeOf k s vs .more → s′ .latest ≡ changeOf k s vs .latest
         → w ≡ (s .sum .value + checkOf (sum (part out (changeOf k s vs .from) (changeOf k s vs .len)))) % 256
         → s′ .sum .value ≡ (w + sum (part (wrote k s vs out) (changeOf k s vs .from) (changeOf k s vs .len)) + sum (part (wrote k s vs out) (s .end) (changeOf k s vs .more)) + checkOf (sum (le 4 (s .end))) + sum (le 4 (s .end + changeOf k s vs .more))) % 256
         → Held xs r t m s′ (wrote k s vs out)
-    goes s′ w ea ee el ew eu =
+    goes s′ w keep ea ee el ew eu =
         let d = laid .long in
         let b : s .end ≡ length fs + sizes (h .nodes) = omega (arith, h .ends) in
         record {
@@ -154,6 +186,8 @@ module _ (xs r : List ℕ) (t : Table) (m : Meaning) (s : State) (out : List ℕ
           counts = rw el (turns .counts);
           few = rw el (turns .few);
           held = turns .held;
+          parent = marked (s′ .marks) keep .0;
+          cache = marked (s′ .marks) keep .1;
           sums = sum-turned turns (h .held) more-room (s .end) (sum (header (headIn t r) 0 0 0)) (sum (le 4 (s .end))) (sum (le 4 (s .end + changeOf k s vs .more))) (s .sum .value) w (s′ .sum .value) b
               (h .sums ∙ ap (λ (n : ℕ). n % 256) (sum-front (headIn t r) (s .end) (records t (h .nodes)))) ew eu
               ∙ ap (λ (n : ℕ). n % 256) (rw ee (sym (sum-front (headIn t r) (s .end + changeOf k s vs .more) (records t (added k vs (h .nodes))))));
@@ -164,17 +198,23 @@ module _ (xs r : List ℕ) (t : Table) (m : Meaning) (s : State) (out : List ℕ
       change-is : c ≡ changeOf k s vs
       change-is = ec ∙ ap (λ (l : List ℕ). changeOf k s (fields (body k) l)) (eb ∙ ap (λ (n : ℕ). drop n r) (add-one (s .at)))
 
+      body-is : bs ≡ drop (suc (s .at)) r
+      body-is = eb ∙ ap (λ (n : ℕ). drop n r) (add-one (s .at))
+
+      pub leads-there : (refers k bs ≡ 0 → ⊥) → Leads out (s .marks .parent) × Leads out (s .marks .cache)
+      leads-there z = leading (λ e. z (ap (refers k) body-is ∙ e))
+
       pub in-limit : s .end + c .more ≤ limit
       in-limit = rw change-is short
 
-      pub stepped : (out′ : List ℕ) (s′ : State) (w : ℕ) → out′ ≡ wrote k s (fields (body k) bs) out → s′ .at ≡ s .at + 1 + width (body k) → s′ .end ≡ s .end + c .more → s′ .latest ≡ c .latest
+      pub stepped : (out′ : List ℕ) (s′ : State) (w : ℕ) → Keeps out (refers k bs) (s .marks) (s′ .marks) → out′ ≡ wrote k s (fields (body k) bs) out → s′ .at ≡ s .at + 1 + width (body k) → s′ .end ≡ s .end + c .more → s′ .latest ≡ c .latest
           → w ≡ (s .sum .value + checkOf (sum (part out (c .from) (c .len)))) % 256
           → s′ .sum .value ≡ (w + sum (part out′ (c .from) (c .len)) + sum (part out′ (s .end) (c .more)) + checkOf (sum (le 4 (s .end))) + sum (le 4 (s .end + c .more))) % 256
           → Held xs r t m s′ out′
-      stepped out′ s′ w eo ea ee el ew eu =
+      stepped out′ s′ w keep eo ea ee el ew eu =
           let o : out′ ≡ wrote k s vs out = eo ∙ ap (λ (l : List ℕ). wrote k s (fields (body k) l) out) (eb ∙ ap (λ (n : ℕ). drop n r) (add-one (s .at))) in
           let f = change-is in
-          rw o (goes s′ w (ea ∙ ap (λ (n : ℕ). n + width (body k)) (add-one (s .at))) (rw f at ee) (rw f at el) (rw f at ew) (rw (o, f) at eu))
+          rw o (goes s′ w (rw body-is at keep) (ea ∙ ap (λ (n : ℕ). n + width (body k)) (add-one (s .at))) (rw f at ee) (rw f at el) (rw f at ew) (rw (o, f) at eu))
 
 -- what a step may rely on
 module _ (r : List ℕ) (t : Table) (s : State) (out : List ℕ) (y : Ready r t s out) where
@@ -188,10 +228,10 @@ module _ (r : List ℕ) (t : Table) (s : State) (out : List ℕ) (y : Ready r t 
 
 pub started : (xs r : List ℕ) (t : Table) (m : Meaning) (s : State) (out ps : List ℕ) (d f : ℕ) → Bytes r → Builds r t (length xs) → meaning r ≡ given m
     → out ≡ over xs 0 (frontOf t r (front t)) → s .at ≡ 28 → s .end ≡ front t → s .latest .place ≡ front t → s .latest .count ≡ 0
-    → d ≡ 0 → f ≡ front t → ps ≡ part out 0 f → s .sum .value ≡ (d + sum ps) % 256
+    → s .marks .parent ≡ record { nodes = 0; place = 36 } → s .marks .cache ≡ record { nodes = 0; place = 36 } → d ≡ 0 → f ≡ front t → ps ≡ part out 0 f → s .sum .value ≡ (d + sum ps) % 256
     → Held xs r t m s out
 unfolding sizes records
-started xs r t m s out ps d f bytes b e held sat send splace scount ed ef ep es =
+started xs r t m s out ps d f bytes b e held sat send splace scount sparent scache ed ef ep es =
     let (n, own, leads) = from-head r m e in
     let same : b .meant ≡ m = cc (b .means) in
     let for : m .head .table ≡ t = rw same at (b .for) in
@@ -213,6 +253,8 @@ started xs r t m s out ps d f bytes b e held sat send splace scount ed ef ep es 
       counts = tt;
       few = omega arith;
       held = rw append-nil held;
+      parent = rw sparent (omega arith, refl);
+      cache = rw scache (omega arith, refl);
       sums = rw (send, append-nil) (es ∙ rw (ed, ep, ef, z, zero-add));
     }
 

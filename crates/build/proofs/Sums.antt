@@ -1,16 +1,22 @@
 -- The running sum: what a change takes away and adds makes of the sum before the sum after. On lists by appending, then on plain numbers.
 use mathlib.Core.Path.{_≡_, refl, ap, _∙_}
-use Prim.Native.Nat.{ℕ, _+_, _%_, _≤_}
+use Prim.Native.Nat.{ℕ, _+_, _/_, _%_, _≤_, _<_}
 use mathlib.Core.List.{List, _++_}
 use native.Mathlib.Omega.{arith}
-use native.Mathlib.Nat.{zero-add}
-use lib.ListN.{length, length-append}
-use lib.Seq.{take-at, drop-at}
-use Rattle.format.specs.Bytes.{le, part, over, sum}
+use native.Mathlib.Nat.{zero-add, add-zero}
+use lib.ListN.{length, take, drop, length-append}
+use lib.Seq.{take-at, drop-at, length-take-le}
+use Rattle.format.specs.Bytes.{at, le, part, over, sum}
 use Rattle.format.specs.Table.{Head}
 use Rattle.format.specs.Build.{header, checkOf}
-use Rattle.laws.proofs.Bytes.{sum-append}
+use Rattle.laws.proofs.Bytes.{drop-turn, over-fits, sum-append}
 use Rattle.laws.proofs.Over.{part-within}
+
+-- what was laid over a buffer
+pub part-over : (bs : List ℕ) (p : ℕ) (cs : List ℕ) → p + length cs ≤ length bs → part (over bs p cs) p (length cs) ≡ cs
+unfolding part
+part-over bs p cs h =
+    rw (over-fits bs p cs h, drop-at (take p bs) (cs ++ drop (p + length cs) bs) p (length-take-le p bs (omega arith)), take-at cs (drop (p + length cs) bs) (length cs) refl)
 
 -- a part of what was laid over a buffer
 pub part-laid : (xs ps qs rs : List ℕ) → length (ps ++ (qs ++ rs)) ≤ length xs → part (over xs 0 (ps ++ (qs ++ rs))) (length ps) (length qs) ≡ qs
@@ -43,6 +49,14 @@ shift₃ a b x y z e = omega arith
 pub sum-chain : (v a d l m p q r s : ℕ) → p ≡ (v + a) % 256 → q ≡ (p + d) % 256 → r ≡ (q + l) % 256 → s ≡ (r + m) % 256 → s ≡ (v + a + d + l + m) % 256
 sum-chain v a d l m p q r s e f g h = h ∙ shift r (q + l) m g ∙ shift₂ q (p + d) l m f ∙ shift₃ p (v + a) d l m e
 
+shut : (x l : ℕ) → x % 256 ≡ (x + checkOf l + l) % 256
+shut x l = omega arith
+
+-- nothing comes at the end: the length is the old one
+pub sum-still : (v a : ℕ) (out : List ℕ) (e n : ℕ) → n ≡ 0 → (v + a) % 256 ≡ (v + a + sum (part out e n) + checkOf (sum (le 4 e)) + sum (le 4 (e + n))) % 256
+unfolding part sum
+sum-still v a out e n z = rw (z, add-zero, add-zero) (shut (v + a) (sum (le 4 e)))
+
 together : (a x y z w : ℕ) → (a + x + y + z + w) % 256 ≡ (a + (x + y + z + w)) % 256
 together a x y z w = ap (λ (n : ℕ). n % 256) (omega arith)
 
@@ -58,3 +72,37 @@ sum-moves k l s b c d m z v w u ev ew eu e =
     let ll = checkOf l in
     let x : w ≡ (k + l + s + bb) % 256 = ew ∙ shift v (k + l + s) bb ev in
     eu ∙ together w c d ll m ∙ shift w (k + l + s + bb) (c + d + ll + m) x ∙ balance k l s b c d m z bb ll e (zero-sum b) (zero-sum l)
+
+-- ---- two bytes
+
+sum-two : (bs : List ℕ) (p : ℕ) → p + 2 ≤ length bs → sum (part bs p 2) ≡ at bs p + at bs (p + 1)
+unfolding part sum
+sum-two bs p h = rw (drop-turn bs p (omega arith), drop-turn bs (p + 1) (omega arith), add-zero)
+
+opposite : (n k : ℕ) → (n + k) % 256 ≡ 0 → k % 256 ≡ checkOf n
+opposite n k e = omega arith
+
+sum-of-zeros : (a b x y : ℕ) → (a + x) % 256 ≡ 0 → (b + y) % 256 ≡ 0 → (a + b + (x + y)) % 256 ≡ 0
+sum-of-zeros a b x y e f = omega arith
+
+less : (a b : ℕ) → (checkOf a + checkOf b) % 256 ≡ checkOf (a + b)
+less a b = opposite (a + b) (checkOf a + checkOf b) (sum-of-zeros a b (checkOf a) (checkOf b) (zero-sum a) (zero-sum b))
+
+exchange : (v x y z : ℕ) → (x + y) % 256 ≡ z → (v + x + y) % 256 ≡ (v + z) % 256
+exchange v x y z e = omega arith
+
+-- two numbers go one by one
+gone : (v a b p q : ℕ) → p ≡ (v + checkOf a) % 256 → q ≡ (p + checkOf b) % 256 → q ≡ (v + checkOf (a + b)) % 256
+gone v a b p q e f = f ∙ shift p (v + checkOf a) (checkOf b) e ∙ exchange v (checkOf a) (checkOf b) (checkOf (a + b)) (less a b)
+
+came : (v l h q x y : ℕ) → q ≡ v % 256 → x ≡ (q + l) % 256 → y ≡ (x + h) % 256 → y ≡ (v + (l + (h + 0))) % 256
+came v l h q x y e f g = omega arith
+
+-- the bytes of a number come in the place of two that go
+pub sum-replaced : (bs : List ℕ) (p n v a b x y : ℕ) → p + 2 ≤ length bs → n < 65536
+    → a ≡ (v + checkOf (at bs p)) % 256 → b ≡ (a + checkOf (at bs (p + 1))) % 256 → x ≡ (b + n % 256) % 256 → y ≡ (x + n / 256) % 256
+    → y ≡ (v + checkOf (sum (part bs p 2)) + sum (le 2 n)) % 256
+unfolding le sum
+sum-replaced bs p n v a b x y h small ea eb ex ey =
+    let e : n / 256 % 256 ≡ n / 256 = omega arith in
+    rw (sum-two bs p h, e) (came (v + checkOf (at bs p + at bs (p + 1))) (n % 256) (n / 256) b x y (gone v (at bs p) (at bs (p + 1)) a b ea eb) ex ey)

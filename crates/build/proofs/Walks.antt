@@ -5,13 +5,14 @@ use mathlib.Core.List.{List, [], _∷_, _++_, append-assoc}
 use mathlib.Core.Bool.{Bool, true, false}
 use native.Mathlib.Omega.{arith}
 use native.Mathlib.Nat.{add-zero, mod-eq-of-lt}
-use lib.ListN.{length, drop}
+use native.Mathlib.Numerals.{add-one}
+use lib.ListN.{length, drop, length-append}
 use lib.Seq.{getD-append-add}
-use lib.Dec.{eqb}
-use borrow.Author.Tests.{eqb-true, eqb-false, ne-eqb}
+use lib.Dec.{eqb, leb}
+use borrow.Author.Tests.{eqb-true, eqb-false, ne-eqb, leb-true, leb-false}
 use Rattle.format.specs.Bytes.{pick, at, le, over}
 use Rattle.format.specs.Layout.{layWith}
-use Rattle.format.specs.Table.{Table, pptt, limit}
+use Rattle.format.specs.Table.{Table, pptt, front, limit}
 use Rattle.format.specs.Form.{Form, processor, cache, memory, acpi, pci, rintc, domain, matrix, side, size, layout}
 use Rattle.format.specs.Node.{Node, bytes, sizes, starts, placeOf}
 use Rattle.format.specs.Build.{records}
@@ -20,27 +21,31 @@ use Rattle.laws.proofs.Shapes.{Within, tableFor}
 use Rattle.laws.proofs.Heads.{length-records}
 use Rattle.laws.proofs.Links.{place-zero, place-below, starts-rise}
 use Rattle.laws.proofs.Good.{Good}
+use Rattle.build.specs.declared.Mark.{Mark}
 use Rattle.build.specs.Write.{hops, placeIn}
+use Rattle.build.specs.Held.{placeAfter, Marked, Leads, Reaches}
 
 -- ---- the walk's loop
 
-pub walk-turn : (bs : List ℕ) (k i p b : ℕ) → i < k → b ≡ at bs (p + 1) → hops bs (k - (i + 1)) (p + b) ≡ hops bs (k - i) p
+hops-last : (bs : List ℕ) (k p : ℕ) → hops bs (suc k) p ≡ hops bs k p + at bs (hops bs k p + 1)
 unfolding hops
-walk-turn bs k i p b h e =
-    let m : k - i ≡ suc (k - (i + 1)) = omega arith in
-    rw (m, e)
+hops-last bs zero p = refl
+hops-last bs (suc k) p = hops-last bs k (p + at bs (p + 1))
 
-pub place-none : (bs : List ℕ) (k : ℕ) → k ≡ 0 → placeIn bs k ≡ 0
+pub walk-turn : (bs : List ℕ) (k p q n : ℕ) → hops bs k p ≡ q → n ≡ at bs (q + 1) → hops bs (k + 1) p ≡ q + n
+walk-turn bs k p q n e f = rw (add-one k, hops-last bs k p, e, f)
+
+pub hops-first : (bs : List ℕ) → hops bs 0 36 ≡ 36
+unfolding hops
+hops-first bs = refl
+
+pub place-none : (bs : List ℕ) (k : ℕ) → k ≡ 0 → 0 ≡ placeIn bs k
 unfolding placeIn
 place-none bs k e = rw e
 
-hops-zero : (bs : List ℕ) (n p : ℕ) → n ≡ 0 → hops bs n p ≡ p
-unfolding hops
-hops-zero bs n p e = rw e
-
-pub place-end : (bs : List ℕ) (k i p : ℕ) → 1 ≤ k → k ≤ i → hops bs (k - i) p ≡ hops bs (k - 1) 36 → p % 4294967296 ≡ placeIn bs k
+pub place-some : (bs : List ℕ) (k : ℕ) → (k ≡ 0 → ⊥) → hops bs (k - 1) 36 % 4294967296 ≡ placeIn bs k
 unfolding placeIn
-place-end bs k i p h j e = rw (ne-eqb k 0 (λ z. omega arith), ← e, hops-zero bs (k - i) p (omega arith))
+place-some bs k z = rw (ne-eqb k 0 z)
 
 -- ---- among records
 
@@ -55,11 +60,6 @@ length-byte g rintc vs rest o w = cc
 length-byte g domain vs rest o w = cc
 length-byte g (matrix i t) vs rest o w = cc
 length-byte g (side n) vs rest o w = cc
-
-hops-last : (bs : List ℕ) (k p : ℕ) → hops bs (suc k) p ≡ hops bs k p + at bs (hops bs k p + 1)
-unfolding hops
-hops-last bs zero p = refl
-hops-last bs (suc k) p = hops-last bs k (p + at bs (p + 1))
 
 -- the byte behind a place among the records
 behind : (xs rs bs : List ℕ) (p : ℕ) → p ≡ length xs + length rs → at (xs ++ (rs ++ bs)) (p + 1) ≡ at bs 1
@@ -129,3 +129,59 @@ module _ (xs fs ys : List ℕ) (ns : List Node) (l : length fs ≡ 36) (room : l
       let e : z ++ rest ≡ fs ++ (records pptt ns ++ (ys ++ rest)) = simp append-assoc in
       let b : placeOf (starts pptt ns) (suc k) < 36 + sizes ns = place-below (36 + sizes ns) (starts pptt ns) (suc k) (starts-rise pptt ns) in
       rw (ne-eqb (suc k) 0 (λ z. omega arith), s, over-fits xs 0 z (omega arith), e, rw l at f) (mod-eq-of-lt (omega arith))
+
+-- ---- places of marks
+
+pub after-older : (n : Node) (es : List Node) (i : ℕ) → i ≤ length es → placeAfter (n ∷ es) i ≡ placeAfter es i
+after-older n es i h =
+    let e : suc (length es) - i ≡ suc (length es - i) = omega arith in
+    rw e
+
+reach-at : (xs zs : List ℕ) (n : Node) (ns : List Node) (i : ℕ) (x : Bool) → leb i (length ns) ≡ x → length xs ≡ 36 → Good pptt (n ∷ ns) → i ≤ suc (length ns)
+    → (i ≤ length ns → (ys : List ℕ) → hops (xs ++ (records pptt ns ++ ys)) i (length xs) ≡ placeAfter ns i)
+    → hops (xs ++ (records pptt (n ∷ ns) ++ zs)) i (length xs) ≡ placeAfter (n ∷ ns) i
+reach-at xs zs n ns i true q l g h ih =
+    let d : i ≤ length ns = leb-true i (length ns) q in
+    rw (regroup xs zs n ns) (ih d (bytes (placeOf (starts pptt ns)) n ++ zs) ∙ sym (after-older n ns i d))
+reach-at xs zs n ns i false q l g h ih =
+    let d : i ≡ suc (length ns) = (let f = leb-false i (length ns) q in omega arith) in
+    let e : suc (length ns) - suc (length ns) ≡ 0 = omega arith in
+    rw (d, e) (hops-end xs zs (n ∷ ns) g ∙ rw l)
+
+-- hops lead to every record, and to the end
+reach-all : (xs zs : List ℕ) (ns : List Node) (i : ℕ) → length xs ≡ 36 → Good pptt ns → i ≤ length ns → hops (xs ++ (records pptt ns ++ zs)) i (length xs) ≡ placeAfter ns i
+unfolding sizes
+reach-all xs zs [] zero l g h = hops-none (xs ++ (records pptt [] ++ zs)) (length xs) ∙ rw l
+reach-all xs zs [] (suc i) l g h = absurd (omega arith)
+reach-all xs zs (n ∷ ns) i l g h = reach-at xs zs n ns i (leb i (length ns)) refl l g h (λ j ys. reach-all xs ys ns i l (g .1) j)
+
+pub reaches : (t : Table) (xs fs : List ℕ) (ns : List Node) (out : List ℕ) → t ≡ pptt → length fs ≡ front t → front t + sizes ns ≤ length xs → Good t ns → out ≡ over xs 0 (fs ++ records t ns) → Reaches out ns
+reaches t xs fs ns out e l room g held i h =
+    let l′ : length fs ≡ 36 = rw e at l in
+    let room′ : 36 + sizes ns ≤ length xs = rw e at room in
+    let z = fs ++ records pptt ns in
+    let n : length z ≡ 36 + sizes ns = rw (length-append, length-records, l′) in
+    let rest = drop (0 + length z) xs in
+    let f = reach-all fs rest ns i l′ (rw e at g) h in
+    rw (held, e, over-fits xs 0 z (omega arith), append-assoc fs (records pptt ns) rest) (rw l′ at f)
+
+-- what holds of nodes holds of those before the newest
+pub reaches-older : (bs : List ℕ) (ns : List Node) → Reaches bs ns → Reaches bs (drop 1 ns)
+reaches-older bs [] r = r
+reaches-older bs (n ∷ ns) r = λ i h. r i (omega arith) ∙ after-older n ns i h
+
+pub marked-newer : (ns : List Node) (m : Mark) → Marked (drop 1 ns) m → Marked ns m
+marked-newer [] m h = h
+marked-newer (n ∷ ns) m h = (omega (arith, h .0), h .1 ∙ sym (after-older n ns (m .nodes) (h .0)))
+
+sizes-drop : (j : ℕ) (es : List Node) → sizes (drop j es) ≤ sizes es
+unfolding sizes
+sizes-drop zero es = omega arith
+sizes-drop (suc j) [] = omega arith
+sizes-drop (suc j) (e ∷ es) = omega (arith, sizes-drop j es)
+
+pub marked-leads : (bs : List ℕ) (es : List Node) (m : Mark) → 36 + sizes es ≤ limit → Reaches bs es → Marked es m → Leads bs m
+marked-leads bs es m short r h = (omega (arith, h .1, sizes-drop (length es - m .nodes) es), r (m .nodes) (h .0) ∙ sym (h .1))
+
+pub reached-marked : (bs : List ℕ) (es : List Node) (to : ℕ) (m : Mark) → m ≡ record { nodes = to - 1; place = hops bs (to - 1) 36 } → (to ≤ length es) × Reaches bs es → Marked es m
+reached-marked bs es to m e (h, r) = rw e (omega arith, r (to - 1) (omega arith))

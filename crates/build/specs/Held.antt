@@ -1,6 +1,6 @@
 -- What the buffer and the numbers of the pass hold between two records: the table of the nodes so far, before its length and its checksum are written.
 use mathlib.Core.Path.{_≡_}
-use Prim.Native.Nat.{ℕ, _+_, _%_, _≤_}
+use Prim.Native.Nat.{ℕ, _+_, _-_, _%_, _≤_}
 use mathlib.Core.List.{List, _++_}
 use lib.ListN.{length, drop}
 use Rattle.format.specs.Bytes.{Bytes, part, over, sum, given}
@@ -10,7 +10,10 @@ use Rattle.format.specs.Recipe.{Meaning, Newest, aProcessor, aMatrix, aSide, ot
 use Rattle.format.specs.Build.{records, header}
 use Rattle.laws.proofs.Good.{Good}
 use Rattle.build.specs.declared.Latest.{Latest}
+use Rattle.build.specs.declared.Mark.{Mark}
+use Rattle.build.specs.declared.Marks.{Marks}
 use Rattle.build.specs.declared.State.{State}
+use Rattle.build.specs.Write.{hops}
 
 -- the head of a recipe for a table
 abbrev pub headIn : Table → List ℕ → Head
@@ -27,6 +30,32 @@ Counts (aMatrix i t us ns) l = (l .initiators ≡ i) × (l .targets ≡ t)
 Counts (aSide n us ns) l = l .count ≡ n
 Counts other l = Unit
 
+-- ---- the records that were named last
+
+-- where record i stands, counted from 0, behind the records es of a PPTT, the newest first
+abbrev pub placeAfter : List Node → ℕ → ℕ
+placeAfter es i = 36 + sizes (drop (length es - i) es)
+
+-- a mark is at one of them, or at their end
+abbrev pub Marked : List Node → Mark → Type 0
+Marked es m = (m .nodes ≤ length es) × (m .place ≡ placeAfter es (m .nodes))
+
+-- hops lead to a mark
+abbrev pub Leads : List ℕ → Mark → Type 0
+Leads bs m = (m .place ≤ limit) × (hops bs (m .nodes) 36 ≡ m .place)
+
+-- hops lead to every record
+abbrev pub Reaches : List ℕ → List Node → Type 0
+Reaches bs es = (i : ℕ) → i ≤ length es → hops bs i 36 ≡ placeAfter es i
+
+-- marks that were right are right after they moved to the record that a reference names, if it is one
+abbrev pub Keeps : List ℕ → ℕ → Marks → Marks → Type 0
+Keeps bs to m m′ =
+    (es : List Node) → ((to ≡ 0 → ⊥) → (to ≤ length es) × Reaches bs es) → Marked es (m .parent) → Marked es (m .cache)
+    → Marked es (m′ .parent) × Marked es (m′ .cache)
+
+-- ---- the pass
+
 -- xs: the buffer at the start; m: what the recipe r means
 pub record Held (xs r : List ℕ) (t : Table) (m : Meaning) (s : State) (out : List ℕ) : Type 0 where
   pub bytes : Bytes r
@@ -42,6 +71,8 @@ pub record Held (xs r : List ℕ) (t : Table) (m : Meaning) (s : State) (out : L
   pub counts : Counts (newest nodes) (s .latest)
   pub few : s .latest .count ≤ 65535
   pub held : out ≡ over xs 0 (frontOf t r (front t) ++ records t nodes)
+  pub parent : Marked (drop 1 nodes) (s .marks .parent)
+  pub cache : Marked (drop 1 nodes) (s .marks .cache)
   pub sums : s .sum .value ≡ sum (frontOf t r (s .end) ++ records t nodes) % 256
 
 -- the same of some buffer and some meaning: what a step relies on

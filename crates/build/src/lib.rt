@@ -1,8 +1,9 @@
 // Builds the table of a recipe: judges all of it, tests the room, and writes record by record, as the Rust's add_* do.
 ghost use mathlib.Core.Path.{_≡_};
-ghost use Prim.Native.Nat.{_+_, _*_, _%_, _≤_, _<_};
+ghost use Prim.Native.Nat.{ℕ, _+_, _*_, _%_, _≤_, _<_};
+ghost use mathlib.Core.List.{List};
 ghost use lib.ListN.{length};
-ghost use Rattle.format.specs.Bytes.{at as atByte, le, part, over, sum as sumOf, given};
+ghost use Rattle.format.specs.Bytes.{at as atByte, le, value, part, over, sum as sumOf, given};
 ghost use Rattle.format.specs.Layout.{fields};
 ghost use Rattle.format.specs.Table.{front, limit};
 ghost use Rattle.format.specs.Form.{processor, cache, memory, acpi, pci, rintc, domain, matrix, side};
@@ -13,10 +14,11 @@ ghost use Rattle.format.specs.Recipe.{Meaning, meaning};
 ghost use Rattle.format.specs.Build.{checkOf, build, table as tableOf, built};
 ghost use Rattle.header.specs.Header.{meant};
 ghost use Rattle.recipe.specs.Kinds.{meantKind};
+ghost use Rattle.recipe.specs.Machine.{refers};
 ghost use Rattle.pptt.specs.Processor.{grown};
 ghost use Rattle.hmat.specs.Hmat.{grown as grownSide};
-ghost use Rattle.build.specs.Write.{placeIn, appended, unsetMatrix, wrote, making, growing, changeOf};
-ghost use Rattle.build.specs.Held.{frontOf, Held, Ready, Goes, Small, Builds};
+ghost use Rattle.build.specs.Write.{hops, placeIn, appended, unsetMatrix, wrote, making, growing, changeOf};
+ghost use Rattle.build.specs.Held.{frontOf, Leads, Keeps, Held, Ready, Goes, Small, Builds};
 ghost use Rattle.recipe.specs.Answers.{number};
 ghost use Rattle.build.specs.Answers.{shown, numberIn, placeOf};
 use header::Checksum;
@@ -45,12 +47,26 @@ pub struct Latest {
     pub targets: u8,
 }
 
-// Where the pass stands: the next record of the recipe, the end of the table, its newest record, and the sum of its bytes.
+// A record of a PPTT: how many stand before it, and its place.
+pub struct Mark {
+    pub nodes: u32,
+    pub place: usize,
+}
+
+// The records that were named last, as a parent and as a cache, and what is written for the last of all: its place, or 0.
+pub struct Marks {
+    pub parent: Mark,
+    pub cache: Mark,
+    pub named: u32,
+}
+
+// Where the pass stands: the next record of the recipe, the end of the table, its newest record, the sum of its bytes, and the records that were named last.
 pub struct State {
     pub at: usize,
     pub end: usize,
     pub latest: Latest,
     pub sum: Checksum,
+    pub marks: Marks,
 }
 
 // What a record does to the table: so many bytes from a place on change, and so many more come at the end.
@@ -125,29 +141,86 @@ fn part(s: &[u8], at: usize, n: usize) -> &[u8]
 
 // ---- references
 
-// The place of a PPTT's k-th record, counted from 1, by the lengths of those before it; 0 for none.
-fn place_of(out: &[u8], k: u32) -> u32
-    ensures { λ r. ⌜ r ≡ placeIn (now (out .entry)) k ⌝ }
-{
-    if k == 0 {
-        return 0;
+impl Mark {
+    // The first record.
+    fn first() -> Self
+        ensures { λ r. ⌜ r ≡ record { nodes = 0; place = 36 } ⌝ }
+    {
+        Self {
+            nodes: 0,
+            place: Table::PPTT_FRONT,
+        }
     }
-    let mut p: usize = Table::PPTT_FRONT;
-    let mut i: u32 = 1;
-    while i < k {
-        let n = field::get_u8(out, p + 1);
-        p += n as usize;
-        i += 1;
+
+    // From where to walk to record i, counted from 0: from here, unless that is past it.
+    fn up_to(self, i: u32) -> Self
+        ensures { λ r. ⌜ (r .nodes ≤ i) × ((bs : List ℕ) → Leads bs self → Leads bs r) ⌝ }
+    {
+        if i < self.nodes {
+            return Self::first();
+        }
+        self
     }
-    (p % 4294967296) as u32
+
+    // Record i, counted from 0, by the lengths of those before it.
+    fn reached(self, out: &[u8], i: u32) -> Self
+        requires { ⌜ (self .nodes ≤ i) × Leads (now out) self ⌝ }
+        ensures { λ r. ⌜ r ≡ record { nodes = i; place = hops (now (out .entry)) i 36 } ⌝ }
+    {
+        let mut place = self.place;
+        let mut nodes = self.nodes;
+        while nodes < i {
+            let n = field::get_u8(out, place + 1);
+            place += n as usize;
+            nodes += 1;
+        }
+        Self { nodes: i, place }
+    }
+}
+
+impl Marks {
+    // At the record that a record of the recipe names, if it names one.
+    fn looked(self, out: &[u8], kind: Kind, bytes: &[u8]) -> Self
+        requires { ⌜ ((refers (meantKind kind) (now bytes) ≡ 0 → ⊥) → Leads (now out) (self .parent) × Leads (now out) (self .cache)) ⌝ }
+        ensures { λ r. ⌜ (r .named ≡ placeIn (now (out .entry)) (refers (meantKind kind) (now (bytes .entry)))) × Keeps (now (out .entry)) (refers (meantKind kind) (now (bytes .entry))) self r ⌝ }
+    {
+        let parent = self.parent;
+        let cache = self.cache;
+        let to = kind.refers(bytes);
+        if to == 0 {
+            return Self {
+                parent,
+                cache,
+                named: 0,
+            };
+        }
+        match kind {
+            Kind::Processor => {
+                let mark = parent.up_to(to - 1).reached(out, to - 1);
+                Self {
+                    parent: mark,
+                    cache,
+                    named: (mark.place % 4294967296) as u32,
+                }
+            }
+            _ => {
+                let mark = cache.up_to(to - 1).reached(out, to - 1);
+                Self {
+                    parent,
+                    cache: mark,
+                    named: (mark.place % 4294967296) as u32,
+                }
+            }
+        }
+    }
 }
 
 // ---- PPTT
 
-fn put_processor(bytes: &[u8], out: &mut [u8], at: usize)
+fn put_processor(bytes: &[u8], out: &mut [u8], at: usize, parent: u32)
+    requires { ⌜ parent ≡ placeIn (now out) (refers format.Processor (now bytes)) ⌝ }
     ensures { λ _. ⌜ now (out .exit) ≡ appended at (node (processor 0) (fields (body format.Processor) (now (bytes .entry)))) (now (out .entry)) ⌝ }
 {
-    let parent = place_of(out, field::get_u32(bytes, 4));
     let node = ProcessorNode {
         flags: field::get_u32(bytes, 0),
         parent: ProcessorHandle(parent),
@@ -157,17 +230,17 @@ fn put_processor(bytes: &[u8], out: &mut [u8], at: usize)
     node.put(out, at);
 }
 
-fn add_resource(bytes: &[u8], out: &mut [u8], latest: Latest)
+fn add_resource(bytes: &[u8], out: &mut [u8], latest: Latest, cache: u32)
+    requires { ⌜ cache ≡ placeIn (now out) (refers format.Resource (now bytes)) ⌝ }
     ensures { λ _. ⌜ now (out .exit) ≡ grown (now (out .entry)) (latest .place) (latest .count) (record { 0 = placeIn (now (out .entry)) (atByte (fields (body format.Resource) (now (bytes .entry))) 0) }) ⌝ }
 {
-    let cache = place_of(out, field::get_u32(bytes, 0));
     ProcessorNode::add_cache(out, latest.place, latest.count, CacheHandle(cache));
 }
 
-fn put_cache(bytes: &[u8], out: &mut [u8], at: usize)
+fn put_cache(bytes: &[u8], out: &mut [u8], at: usize, next_level: u32)
+    requires { ⌜ «next_level» ≡ placeIn (now out) (refers format.Cache (now bytes)) ⌝ }
     ensures { λ _. ⌜ now (out .exit) ≡ appended at (node cache (fields (body format.Cache) (now (bytes .entry)))) (now (out .entry)) ⌝ }
 {
-    let next_level = place_of(out, field::get_u32(bytes, 1));
     let node = CacheNode {
         flags: field::get_u8(bytes, 0) as u32,
         next_level: CacheHandle(next_level),
@@ -312,17 +385,17 @@ fn add_handle(bytes: &[u8], out: &mut [u8], latest: Latest)
 
 // ---- one record
 
-// Writes the record of a kind whose body the bytes begin with.
-fn put(kind: Kind, bytes: &[u8], out: &mut [u8], s: State)
-    requires { ⌜ Small s ⌝ }
+// Writes the record of a kind whose body the bytes begin with; named: the place of the record that it names.
+fn put(kind: Kind, bytes: &[u8], out: &mut [u8], s: State, named: u32)
+    requires { ⌜ Small s × (named ≡ placeIn (now out) (refers (meantKind kind) (now bytes))) ⌝ }
     ensures { λ _. ⌜ now (out .exit) ≡ wrote (meantKind kind) s (fields (body (meantKind kind)) (now (bytes .entry))) (now (out .entry)) ⌝ }
 {
     let end = s.end;
     let latest = s.latest;
     match kind {
-        Kind::Processor => put_processor(bytes, out, end),
-        Kind::Resource => add_resource(bytes, out, latest),
-        Kind::Cache => put_cache(bytes, out, end),
+        Kind::Processor => put_processor(bytes, out, end, named),
+        Kind::Resource => add_resource(bytes, out, latest, named),
+        Kind::Cache => put_cache(bytes, out, end, named),
         Kind::Memory => put_memory(bytes, out, end),
         Kind::Acpi => put_acpi(bytes, out, end),
         Kind::Pci => put_pci(bytes, out, end),
@@ -475,9 +548,25 @@ fn summed(sum: Checksum, out: &[u8], change: Change, end: usize) -> Checksum
     ensures { λ r. ⌜ r .value ≡ (sum .value + sumOf (part (now (out .entry)) (change .from) (change .len)) + sumOf (part (now (out .entry)) end (change .more)) + checkOf (sumOf (le 4 end)) + sumOf (le 4 (end + change .more))) % 256 ⌝ }
 {
     let sum = sum.append(part(out, change.from, change.len));
+    if change.more == 0 {
+        return sum;
+    }
     let sum = sum.append(part(out, end, change.more));
     let sum = sum.delete(&length_bytes(end));
     sum.append(&length_bytes(end + change.more))
+}
+
+// Writes a number in the place of two bytes, which leave the sum as it comes.
+fn replace(out: &mut [u8], at: usize, value: u16, sum: Checksum) -> Checksum
+    requires { ⌜ at + 2 ≤ length (now out) ⌝ }
+    ensures { λ _. ⌜ now (out .exit) ≡ over (now (out .entry)) at (le 2 value) ⌝ }
+    ensures { λ r. ⌜ r .value ≡ (sum .value + checkOf (sumOf (part (now (out .entry)) at 2)) + sumOf (le 2 value)) % 256 ⌝ }
+{
+    let low = (value % 256) as u8;
+    let high = (value / 256) as u8;
+    let old = sum.sub(out[at]).sub(out[at + 1]);
+    field::put_u16(out, at, value);
+    old.add(low).add(high)
 }
 
 // Writes the next record of the recipe; the bytes that it changes leave the sum before, and come back after.
@@ -495,7 +584,8 @@ fn step(recipe: &[u8], table: Table, out: &mut [u8], s: State) -> State
     let change = change_of(kind, bytes, s);
     let end = s.end + change.more;
     let old = s.sum.delete(part(out, change.from, change.len));
-    put(kind, bytes, out, s);
+    let marks = s.marks.looked(out, kind, bytes);
+    put(kind, bytes, out, s, marks.named);
     let sum = summed(old, out, change, s.end);
     let latest = change.latest;
     State {
@@ -503,6 +593,7 @@ fn step(recipe: &[u8], table: Table, out: &mut [u8], s: State) -> State
         end,
         latest,
         sum,
+        marks,
     }
 }
 
@@ -539,6 +630,67 @@ fn start(recipe: &[u8], table: Table, out: &mut [u8]) -> State
             targets: 0,
         },
         sum,
+        marks: Marks {
+            parent: Mark::first(),
+            cache: Mark::first(),
+            named: 0,
+        },
+    }
+}
+
+// Writes the cell of the record at a place; cells: where the matrix has its first.
+fn put_cell(
+    recipe: &[u8],
+    at: usize,
+    cells: usize,
+    targets: usize,
+    out: &mut [u8],
+    sum: Checksum,
+) -> Checksum
+    requires { ⌜ (at + 5 ≤ length (now recipe)) × (cells + 2 * (atByte (now recipe) (at + 1) * targets + atByte (now recipe) (at + 2)) + 2 ≤ length (now out)) ⌝ }
+    ensures { λ _. ⌜ now (out .exit) ≡ over (now (out .entry)) (cells + 2 * (atByte (now (recipe .entry)) (at + 1) * targets + atByte (now (recipe .entry)) (at + 2))) (le 2 (value (part (now (recipe .entry)) (at + 3) 2))) ⌝ }
+    ensures { λ r. ⌜ r .value ≡ (sum .value + checkOf (sumOf (part (now (out .entry)) (cells + 2 * (atByte (now (recipe .entry)) (at + 1) * targets + atByte (now (recipe .entry)) (at + 2))) 2)) + sumOf (le 2 (value (part (now (recipe .entry)) (at + 3) 2)))) % 256 ⌝ }
+{
+    let i = recipe[at + 1] as usize;
+    let t = recipe[at + 2] as usize;
+    let value = field::get_u16(recipe, at + 3);
+    replace(out, cells + 2 * (i * targets + t), value, sum)
+}
+
+// Writes the cells that follow, one record after the other, as step does; no other table has any.
+fn put_cells(recipe: &[u8], table: Table, out: &mut [u8], s: State) -> State
+    requires { ⌜ Ready (now recipe) (meant table) s (now out) ⌝ }
+    ensures { λ r. ⌜ (s .at ≤ r .at) × Goes (now (recipe .entry)) (meant table) s (now (out .entry)) r (now (out .exit)) ⌝ }
+{
+    let Table::Hmat = table else {
+        return s;
+    };
+    let latest = s.latest;
+    let targets = latest.targets as usize;
+    let cells = latest.place + 32 + 4 * latest.initiators as usize + 4 * targets;
+    let end = s.end;
+    let marks = s.marks;
+    let mut at = s.at;
+    let mut sum = s.sum;
+    while at < recipe.len() {
+        if recipe[at] != Kind::CELL {
+            return State {
+                at,
+                end,
+                latest,
+                sum,
+                marks,
+            };
+        }
+        sum = put_cell(recipe, at, cells, targets, out, sum);
+        at = at + 5;
+    }
+    State {
+        at,
+        end,
+        latest,
+        sum,
+        marks,
     }
 }
 
@@ -549,7 +701,8 @@ fn put_records(recipe: &[u8], table: Table, out: &mut [u8], first: State) -> Sta
 {
     let mut s = first;
     while s.at < recipe.len() {
-        s = step(recipe, table, out, s);
+        let next = step(recipe, table, out, s);
+        s = put_cells(recipe, table, out, next);
     }
     s
 }

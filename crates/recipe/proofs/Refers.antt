@@ -3,6 +3,7 @@ use mathlib.Core.Path.{_≡_, refl, ap}
 use Prim.Native.Nat.{ℕ, zero, suc, _+_, _-_}
 use mathlib.Core.List.{List, [], _∷_, _++_, append-assoc}
 use mathlib.Core.Bool.{Bool, true, false}
+use mathlib.Core.Option.{some}
 use native.Mathlib.Omega.{arith}
 use native.Mathlib.Numerals.{add-one}
 use lib.ListN.{length, getD, length-append}
@@ -15,7 +16,10 @@ use Rattle.format.specs.Form.{typeOf}
 use Rattle.format.specs.Node.{Node, starts, atOrdinal}
 use Rattle.header.specs.Header.{meant, tableNamed}
 use Rattle.recipe.specs.declared.State.{State}
-use Rattle.recipe.specs.Machine.{stateOf, none-made, nodeTypes, typesOf, names, Begins}
+use Rattle.recipe.specs.Machine.{stateOf, none-made, nodeTypes, typesOf, names, Begins, refers, Finds}
+use Rattle.format.specs.Kind.{Kind, Processor, Resource, Cache, Memory, Acpi, Pci, Rintc, Domain, Matrix, Initiator, Target, Cell, Side, Handle, kindOf}
+use Rattle.laws.proofs.Builds.{kind-home}
+use Rattle.header.specs.declared.Table as named
 
 length-types : (ns : List Node) → length (typesOf ns) ≡ length ns
 unfolding typesOf
@@ -48,7 +52,7 @@ names-below t (n ∷ ns) rest to ty =
     let g : getD ts (length ns) none-made ≡ typeOf (n .form) = getD-at (typesOf ns) (typeOf (n .form)) rest none-made (length ns) (length-types ns) in
     rw (a, names-more ts (length ns) to ty, g, names-below t ns (typeOf (n .form) ∷ rest) to ty, length-starts t ns)
 
-meant-named : (t : Table) → meant (tableNamed t) ≡ t
+pub meant-named : (t : Table) → meant (tableNamed t) ≡ t
 meant-named pptt = refl
 meant-named srat = refl
 meant-named hmat = refl
@@ -64,3 +68,38 @@ pub names-joined : (r : List ℕ) (t : Table) (n : Node) (ns : List Node) (s : S
 unfolding typesOf
 names-joined r t n ns s e (rest, b) to ty =
     rw (e, meant-named t, b, append-assoc (typesOf ns) (typeOf (n .form) ∷ []) rest) (names-below t ns (typeOf (n .form) ∷ rest) to ty)
+
+-- ---- what was found
+
+-- of a reference that may be none, and of one that may not
+module _ (ts : List ℕ) (own to ty f : ℕ) (found : Finds ts to f) where
+  pub found-or-none : pick (eqb to 0) true (names ts own to ty) ≡ pick (eqb to 0) true (pick (ltb to own) (eqb f ty) false)
+  found-or-none = go (eqb to 0) refl
+    where
+      go : (x : Bool) → eqb to 0 ≡ x → pick x true (pick x false (pick (ltb to own) (eqb (getD ts (to - 1) none-made) ty) false)) ≡ pick x true (pick (ltb to own) (eqb f ty) false)
+      go true q = refl
+      go false q = rw (found (eqb-false to 0 q))
+
+  pub found-named : names ts own to ty ≡ pick (eqb to 0) false (pick (ltb to own) (eqb f ty) false)
+  found-named = go (eqb to 0) refl
+    where
+      go : (x : Bool) → eqb to 0 ≡ x → pick x false (pick (ltb to own) (eqb (getD ts (to - 1) none-made) ty) false) ≡ pick x false (pick (ltb to own) (eqb f ty) false)
+      go true q = refl
+      go false q = rw (found (eqb-false to 0 q))
+
+-- only a PPTT's records have a reference
+pub found-here : (t : Table) (r bs : List ℕ) (b f : ℕ) (k : Kind) → kindOf t b ≡ some k → Finds (nodeTypes pptt r) (refers k bs) f → Finds (nodeTypes t r) (refers k bs) f
+found-here t r bs b f Processor e h = rw (← kind-home t b Processor e) h
+found-here t r bs b f Resource e h = rw (← kind-home t b Resource e) h
+found-here t r bs b f Cache e h = rw (← kind-home t b Cache e) h
+found-here t r bs b f Memory e h = λ z. absurd (z refl)
+found-here t r bs b f Acpi e h = λ z. absurd (z refl)
+found-here t r bs b f Pci e h = λ z. absurd (z refl)
+found-here t r bs b f Rintc e h = λ z. absurd (z refl)
+found-here t r bs b f Domain e h = λ z. absurd (z refl)
+found-here t r bs b f Matrix e h = λ z. absurd (z refl)
+found-here t r bs b f Initiator e h = λ z. absurd (z refl)
+found-here t r bs b f Target e h = λ z. absurd (z refl)
+found-here t r bs b f Cell e h = λ z. absurd (z refl)
+found-here t r bs b f Side e h = λ z. absurd (z refl)
+found-here t r bs b f Handle e h = λ z. absurd (z refl)

@@ -26,9 +26,9 @@ use Rattle.recipe.specs.declared.State.{State}
 use Rattle.recipe.specs.declared.Refusal.the-variants.{TooLong}
 use Rattle.recipe.specs.declared.Step.{Step}
 use Rattle.recipe.specs.declared.Step.the-variants.{Next, Refused}
-use Rattle.recipe.specs.Machine.{newestKept, stateOf, Sound, grown, nodeTypes, names, stepped, turn, Begins}
+use Rattle.recipe.specs.Machine.{newestKept, stateOf, Sound, grown, nodeTypes, refers, Finds, stepped, turn, Begins}
 use Rattle.recipe.proofs.Newest.{the-type}
-use Rattle.recipe.proofs.Refers.{names-new, names-joined}
+use Rattle.recipe.proofs.Refers.{names-new, names-joined, found-or-none, found-named}
 
 -- ---- the tests one by one
 
@@ -98,23 +98,25 @@ module _ (ok : ℕ → ℕ → Bool) (bs : List ℕ) where
   resource-refs = rw (fields-at asIs (body Resource) bs 0) (both-end _)
 
 -- new nodes that have one
-module _ (t : Table) (ns : List Node) (s : State) (e : s ≡ stateOf t ns) (r : List ℕ) (b : Begins r t ns) (p : ℕ) (bs : List ℕ) where
+module _ (t : Table) (ns : List Node) (s : State) (e : s ≡ stateOf t ns) (r : List ℕ) (b : Begins r t ns) (p : ℕ) (bs : List ℕ) (f : ℕ) where
   abbrev referred : ℕ → ℕ → Bool
-  referred to ty = pick (eqb to 0) true (names (nodeTypes (meant (s .table)) r) (s .nodes + 1) to ty)
+  referred to ty = pick (eqb to 0) true (pick (ltb to (s .nodes + 1)) (eqb f ty) false)
 
-  pub processor-turn : turn t ns Processor bs p ≡ pick (not (referred (value (part bs 4 4)) 0)) (refused 6 p) (stepped p (grown s (s .nodes + 1) 20 (is.Processor 0)))
+  pub processor-turn : Finds (nodeTypes (meant (s .table)) r) (refers Processor bs) f
+      → turn t ns Processor bs p ≡ pick (not (referred (value (part bs 4 4)) 0)) (refused 6 p) (stepped p (grown s (s .nodes + 1) 20 (is.Processor 0)))
   unfolding step
-  processor-turn =
+  processor-turn found =
       turn-judged t ns Processor bs p
-      ∙ rw (processor-refs (atOrdinal (starts t ns)) bs, names-new r t ns s e b (value (part bs 4 4)) 0, made-turn t ns (processor 0) (fields (body Processor) bs) p s e)
+      ∙ rw (processor-refs (atOrdinal (starts t ns)) bs, ← found-or-none (nodeTypes (meant (s .table)) r) (s .nodes + 1) (value (part bs 4 4)) 0 f found, names-new r t ns s e b (value (part bs 4 4)) 0, made-turn t ns (processor 0) (fields (body Processor) bs) p s e)
 
-  pub cache-turn : turn t ns Cache bs p
+  pub cache-turn : Finds (nodeTypes (meant (s .table)) r) (refers Cache bs) f
+      → turn t ns Cache bs p
       ≡ pick (not (all (ranges cache (fields (body Cache) bs)))) (refused 5 p)
       (pick (not (referred (value (part bs 1 4)) 1)) (refused 6 p) (stepped p (grown s (s .nodes + 1) 28 is.Other)))
   unfolding step
-  cache-turn =
+  cache-turn found =
       turn-judged t ns Cache bs p
-      ∙ rw (cache-refs (atOrdinal (starts t ns)) bs, names-new r t ns s e b (value (part bs 1 4)) 1, made-turn t ns cache (fields (body Cache) bs) p s e)
+      ∙ rw (cache-refs (atOrdinal (starts t ns)) bs, ← found-or-none (nodeTypes (meant (s .table)) r) (s .nodes + 1) (value (part bs 1 4)) 1 f found, names-new r t ns s e b (value (part bs 1 4)) 1, made-turn t ns cache (fields (body Cache) bs) p s e)
 
 -- ---- the newest node
 
@@ -180,11 +182,11 @@ module _ (t : Table) (ns : List Node) (s : State) (e : s ≡ stateOf t ns) where
 -- ---- records that join it
 
 module _ (t : Table) (s : State) (p : ℕ) (bs : List ℕ) where
-  module _ (n : ℕ) (r : List ℕ) where
+  module _ (n : ℕ) (r : List ℕ) (f : ℕ) (found : Finds (nodeTypes (meant (s .table)) r) (refers Resource bs) f) where
     -- the answer to a resource behind a processor with n of them
     abbrev withResource : Answer State
     withResource =
-        pick (not (names (nodeTypes (meant (s .table)) r) (s .nodes) (value (part bs 0 4)) 1)) (refused 6 p)
+        pick (not (pick (eqb (value (part bs 0 4)) 0) false (pick (ltb (value (part bs 0 4)) (s .nodes)) (eqb f 1) false))) (refused 6 p)
         (pick (leb 58 n) (refused 7 p) (stepped p (grown s (s .nodes) 4 (is.Processor (n + 1)))))
 
     resource-at : (us : List ℕ) (ms : List Node) → s ≡ stateOf t (node (processor n) us ∷ ms) → Begins r t (node (processor n) us ∷ ms)
@@ -196,6 +198,7 @@ module _ (t : Table) (s : State) (p : ℕ) (bs : List ℕ) where
         turn-judged t ns Resource bs p
         ∙ rw (
           resource-refs (atOrdinal (starts t ms)) bs,
+          ← found-named (nodeTypes (meant (s .table)) r) (s .nodes) (value (part bs 0 4)) 1 f found,
           names-joined r t (node (processor n) us) ms s e b (value (part bs 0 4)) 1,
           grown-turn t ns more p s (s .nodes) 4 (is.Processor (n + 1)) e (rw e refl) (omega arith) (ap is.Processor (add-one n)),
         )

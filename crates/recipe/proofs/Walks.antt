@@ -1,35 +1,42 @@
 -- The records of a recipe from a place on: one more is cut off and judged, or the cut ends there. What the pass keeps stays true.
-use mathlib.Core.Path.{_≡_, refl, sym, _∙_}
-use Prim.Native.Nat.{ℕ, zero, suc, _+_, _-_, _≤_, _<_}
+use mathlib.Core.Path.{_≡_, refl, sym, _∙_, ap}
+use Prim.Native.Nat.{ℕ, zero, suc, _+_, _≤_, _<_}
 use mathlib.Core.List.{List, [], _∷_, _++_, append-assoc, append-nil}
 use mathlib.Core.Bool.{Bool, true, false}
 use mathlib.Core.Option.{none, some}
 use native.Mathlib.Omega.{arith}
-use native.Mathlib.Numerals.{add-one, sub-one}
-use lib.ListN.{length, drop, getD, drop-of-length-le}
-use lib.Seq.{drop-drop}
-use lib.Dec.{eqb}
-use borrow.Author.Tests.{le-ltb, lt-ltb, eq-eqb, ne-eqb}
+use native.Mathlib.Numerals.{add-one}
+use lib.ListN.{length, drop, getD, drop-of-length-le, length-drop}
+use lib.Seq.{drop-drop, getD-drop}
+use lib.Dec.{eqb, leb, ltb}
+use borrow.Author.Tests.{le-ltb, lt-ltb, eq-eqb, ne-eqb, eqb-true, leb-true}
+use native.Mathlib.Nat.{add-zero}
 use Rattle.format.specs.Bytes.{pick, at, Answer, refused, given, unless, value, part}
-use Rattle.format.specs.Layout.{width, fields}
+use Rattle.format.specs.Layout.{asIs, width, fields, refsGood}
 use Rattle.format.specs.Table.{Table, pptt, srat, hmat, code, front, limit, Head, headOf}
 use Rattle.format.specs.Form.{processor, matrix, side, typeOf}
 use Rattle.format.specs.Node.{Node, sizes}
 use Rattle.format.specs.Kind.{Kind, Processor, Resource, Cache, Memory, Acpi, Pci, Rintc, Domain, Matrix, Initiator, Target, Cell, Side, Handle, kindOf, body}
-use Rattle.format.specs.Recipe.{Newest, aProcessor, aMatrix, aSide, other, cutAs, skip, cut, newest, resource, handle, setting, step, added, fault, Meaning, since, run, tableOf, headed, meaning}
+use Rattle.format.specs.Recipe.{Newest, aProcessor, aMatrix, aSide, other, cutAs, skip, cut, newest, resource, handle, setting, step, added, fault, since, run, tableOf, headed, meaning}
 use Rattle.laws.proofs.Bytes.{drop-turn, value-byte}
 use Rattle.laws.proofs.Finds.{unless-given}
+use Rattle.laws.proofs.Lays.{both-true}
+use Rattle.laws.proofs.Offsets.{fields-at}
 use Rattle.laws.proofs.Grows.{passed}
 use Rattle.laws.proofs.Calls.{cut-skip}
 use Rattle.laws.proofs.Links.{size-pos}
+use Rattle.header.specs.declared.Table.the-variants.{Hmat}
+use Rattle.header.specs.Header.{meant}
 use Rattle.recipe.specs.declared.Newest as kept
 use Rattle.recipe.specs.declared.Newest.the-variants as is
 use Rattle.recipe.specs.declared.Refusal.{Refusal}
 use Rattle.recipe.specs.declared.State.{State}
+use Rattle.recipe.specs.declared.Step.{Step}
 use Rattle.recipe.specs.declared.Step.the-variants.{Next, Refused}
 use Rattle.recipe.specs.Answers.{number, outlined}
-use Rattle.recipe.specs.Machine.{newestKept, stateOf, Sound, none-made, makes, made, madeAs, typesIn, nodeTypes, typesOf, TurnsIn}
-use Rattle.recipe.proofs.Steps.{Parted, parted-all}
+use Rattle.recipe.specs.Machine.{newestKept, stateOf, Sound, none-made, makes, made, madeAs, typesIn, nodeTypes, typesOf, TurnsIn, refers, Finds, TurnsFor, goodCell, whole, Stands}
+use Rattle.recipe.proofs.Steps.{Parted, parted-all, set-turn}
+use Rattle.recipe.proofs.Refers.{meant-named, found-here}
 
 -- ---- one record more
 
@@ -62,15 +69,23 @@ module _ (t : Table) (r : List ℕ) (p : ℕ) (h : p < length r) where
     pub types-some : typesIn t 0 (drop p r) ≡ made k ++ typesIn t 0 (drop (p + 1 + width (body k)) r)
     types-some = rw (types-at, e)
 
-    pub types-joined : (i : ℕ) → makes k ≡ none-made → getD (typesIn t 0 (drop p r)) i none-made ≡ getD (typesIn t 0 (drop (p + 1 + width (body k)) r)) i none-made
-    types-joined i z = rw (types-some, eq-eqb _ _ z)
+    -- n nodes are made before it
+    module _ (n : ℕ) (l : typesIn t 0 (drop p r) ≡ drop n (nodeTypes t r)) where
+      pub leads-joined : makes k ≡ none-made → typesIn t 0 (drop (p + 1 + width (body k)) r) ≡ drop n (nodeTypes t r)
+      leads-joined z = sym (types-some ∙ rw (eq-eqb _ _ z)) ∙ l
 
-    pub types-here : (i : ℕ) → (makes k ≡ none-made → ⊥) → i ≡ 0 → getD (typesIn t 0 (drop p r)) i none-made ≡ makes k
-    types-here i z q = rw (types-some, ne-eqb _ _ z, q)
+      made-first : (makes k ≡ none-made → ⊥) → makes k ∷ typesIn t 0 (drop (p + 1 + width (body k)) r) ≡ drop n (nodeTypes t r)
+      made-first z = sym (types-some ∙ rw (ne-eqb _ _ z)) ∙ l
 
-    pub types-past : (i : ℕ) → (makes k ≡ none-made → ⊥) → (i ≡ 0 → ⊥) → getD (typesIn t 0 (drop p r)) i none-made ≡ getD (typesIn t 0 (drop (p + 1 + width (body k)) r)) (i - 1) none-made
-    types-past zero z q = absurd (q refl)
-    types-past (suc i) z q = rw (types-some, ne-eqb _ _ z, sub-one)
+      pub leads-here : (makes k ≡ none-made → ⊥) → makes k ≡ getD (nodeTypes t r) n none-made
+      leads-here z = ap (λ (ts : List ℕ). getD ts 0 none-made) (made-first z) ∙ getD-drop n (nodeTypes t r) 0 none-made ∙ rw add-zero
+
+      pub leads-past : (makes k ≡ none-made → ⊥) → typesIn t 0 (drop (p + 1 + width (body k)) r) ≡ drop (n + 1) (nodeTypes t r)
+      leads-past z = ap (λ (ts : List ℕ). drop 1 ts) (made-first z) ∙ drop-drop 1 n (nodeTypes t r)
+
+-- no node is made from a place on
+pub leads-nowhere : (ts : List ℕ) (i n j : ℕ) → drop n ts ≡ [] → n + j ≡ i → none-made ≡ getD ts i none-made
+leads-nowhere ts i n j z e = sym (rw (← e, ← getD-drop n ts j none-made, z))
 
 -- ---- the types of the nodes with one record more
 
@@ -156,41 +171,28 @@ refused-also f n p x b e = go (eqb f 0) e
     go false e = let z : f ≡ n = cc in rw z
 
 module _ (r : List ℕ) (h : Head) where
-  -- what the records behind the head mean
-  abbrev pub whole : Answer Meaning
-  whole = run h 0 [] (cut (h .table) 0 28 (drop 28 r))
-
-  -- what the state at a place stands for
-  pub record Stands (p : ℕ) (s : State) : Type 0 where
-    pub nodes : List Node
-    pub newer : ℕ  -- the place of the newest node's record
-    pub is : s ≡ stateOf (h .table) nodes
-    pub short : front (h .table) + sizes nodes ≤ limit
-    pub begun : nodeTypes (h .table) r ≡ typesOf nodes ++ typesIn (h .table) 0 (drop p r)
-    pub same : whole ≡ run h newer nodes (cut (h .table) 0 p (drop p r))
-
-  pub starts-so : Stands 28 (stateOf (h .table) [])
+  pub starts-so : Stands r h 28 (stateOf (h .table) [])
   unfolding typesOf sizes
   starts-so = record { nodes = []; newer = 0; is = refl; short = front-short (h .table); begun = refl; same = refl }
 
-  module _ (p : ℕ) (s : State) (w : Stands p s) where
+  module _ (p : ℕ) (s : State) (w : Stands r h p s) where
     pub sound : Sound s
     sound =
         let l : front (h .table) + sizes (w .nodes) ≤ limit = w .short in
         let f : length (w .nodes) ≤ sizes (w .nodes) = few (w .nodes) in
         rw (w .is) (record { short = l; few = omega arith })
 
-    pub ends : length r ≤ p → outlined whole ≡ given (h .table, s .length)
+    pub ends : length r ≤ p → outlined (whole r h) ≡ given (h .table, s .length)
     unfolding cut run
     ends l = rw (w .same, drop-of-length-le r l, w .is)
 
     module _ (l : p < length r) where
-      pub bad-kind : kindOf (h .table) (at r p) ≡ none → whole ≡ refused 2 p
+      pub bad-kind : kindOf (h .table) (at r p) ≡ none → whole r h ≡ refused 2 p
       unfolding cutAs run
       bad-kind e = w .same ∙ rw (cut-at (h .table) r p l, e)
 
       module _ (k : Kind) (e : kindOf (h .table) (at r p) ≡ some k) where
-        pub cut-off : length (drop (p + 1) r) < width (body k) → whole ≡ refused 3 p
+        pub cut-off : length (drop (p + 1) r) < width (body k) → whole r h ≡ refused 3 p
         unfolding cutAs run
         cut-off c = w .same ∙ rw (cut-at (h .table) r p l, e, lt-ltb _ _ c)
 
@@ -198,15 +200,15 @@ module _ (r : List ℕ) (h : Head) where
           vs : List ℕ
           vs = fields (body k) (drop (p + 1) r)
 
-          called-at : whole ≡ unless (fault (h .table) (w .nodes) k vs) p (run h (since (w .nodes) (added k vs (w .nodes)) p (w .newer)) (added k vs (w .nodes)) (cut (h .table) 0 (p + 1 + width (body k)) (drop (p + 1 + width (body k)) r)))
+          called-at : whole r h ≡ unless (fault (h .table) (w .nodes) k vs) p (run h (since (w .nodes) (added k vs (w .nodes)) p (w .newer)) (added k vs (w .nodes)) (cut (h .table) 0 (p + 1 + width (body k)) (drop (p + 1 + width (body k)) r)))
           unfolding cutAs run vs
           called-at = w .same ∙ rw (cut-at (h .table) r p l, e, le-ltb _ _ c)
 
-          pub stops : (f : Refusal) → TurnsIn r k (drop (p + 1) r) s (Refused f) → whole ≡ refused (number f) p
+          pub stops : (f : Refusal) → TurnsIn r k (drop (p + 1) r) s (Refused f) → whole r h ≡ refused (number f) p
           unfolding vs
           stops f d = called-at ∙ refused-also (fault (h .table) (w .nodes) k vs) (number f) p _ _ (d (h .table) (w .nodes) p (w .is) (_, w .begun))
 
-          pub goes : (s′ : State) → TurnsIn r k (drop (p + 1) r) s (Next s′) → Stands (p + 1 + width (body k)) s′
+          pub goes : (s′ : State) → TurnsIn r k (drop (p + 1) r) s (Next s′) → Stands r h (p + 1 + width (body k)) s′
           unfolding vs
           goes s′ d =
               let (z, g) = unless-given (fault (h .table) (w .nodes) k vs) p (given (stateOf (h .table) (added k vs (w .nodes)))) (sym (d (h .table) (w .nodes) p (w .is) (_, w .begun))) in
@@ -219,6 +221,42 @@ module _ (r : List ℕ) (h : Head) where
                 begun = w .begun ∙ rw (types-some (h .table) r p l k e, types-added k vs (w .nodes) (y .place), append-assoc);
                 same = called-at ∙ rw z;
               }
+
+-- the table of the state is the head's, and only a PPTT's records name a node
+module _ (r : List ℕ) (h : Head) (p : ℕ) (s : State) (w : Stands r h p s) where
+  table-of : meant (s .table) ≡ h .table
+  table-of = rw (w .is) (meant-named (h .table))
+
+  pub looked-turn : (k : Kind) (bs : List ℕ) (f : ℕ) (r′ : Step) → kindOf (h .table) (at r p) ≡ some k → Finds (nodeTypes pptt r) (refers k bs) f → TurnsFor f k bs s r′ → TurnsIn r k bs s r′
+  looked-turn k bs f r′ e found d = d r (rw table-of (found-here (h .table) r bs (at r p) f k e found))
+
+pub cell-fits : (r : List ℕ) (p i t : ℕ) → goodCell r p i t ≡ true → p + 5 ≤ length r
+cell-fits r p i t good = leb-true (p + 5) (length r) (both-true (leb (p + 5) (length r)) _ (both-true (eqb (at r p) 52) _ good .1) .0)
+
+-- a good cell leaves the state as it is
+module _ (r : List ℕ) (h : Head) (p : ℕ) (s : State) (w : Stands r h p s) (i t : ℕ) (own : s .table ≡ Hmat) (behind : s .newest ≡ is.Matrix i t) (l : p < length r) (good : goodCell r p i t ≡ true) where
+  tests : (at r p ≡ 52) × (ltb (at r (p + 1)) i ≡ true) × (ltb (at r (p + 2)) t ≡ true)
+  tests =
+      let (a, x) = both-true (eqb (at r p) 52) _ good in
+      let (c, d) = both-true (ltb (at r (p + 1)) i) _ (both-true (leb (p + 5) (length r)) _ x .1) in
+      (eqb-true (at r p) 52 a, c, d)
+
+  named : kindOf (h .table) (at r p) ≡ some Cell
+  unfolding kindOf
+  named = rw (← table-of r h p s w, own, tests .0)
+
+  turns : TurnsIn r Cell (drop (p + 1) r) s (Next s)
+  unfolding body step refsGood
+  turns u ns q e b =
+      let two : p + 1 + 1 ≡ p + 2 = omega arith in
+      sym (set-turn u s q (drop (p + 1) r) i t Cell _ _ _ (sound r h p s w) (λ ms. refl) (λ ok vs. refl) ns e behind
+      ∙ rw (fields-at asIs (body Cell) r (p + 1), two, ← value-byte r (p + 1), ← value-byte r (p + 2), tests .1, tests .2))
+
+  pub cell-passed : Stands r h (p + 5) s
+  unfolding width body
+  cell-passed =
+      let z : p + 1 + width (body Cell) ≡ p + 5 = omega arith in
+      rw z at (goes r h p s w l Cell named (rw length-drop (omega (arith, cell-fits r p i t good))) s turns)
 
 -- ---- the head
 

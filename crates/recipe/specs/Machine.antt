@@ -5,17 +5,20 @@ use mathlib.Core.List.{List, [], _∷_, _++_}
 use mathlib.Core.Bool.{Bool, false}
 use mathlib.Core.Option.{Option, none, some}
 use lib.ListN.{length, drop, getD}
-use lib.Dec.{eqb, ltb}
-use Rattle.format.specs.Bytes.{pick, Answer, refused, given, unless}
+use lib.Dec.{eqb, leb, ltb}
+use Rattle.format.specs.Bytes.{pick, all, Answer, refused, given, unless, at, value, part}
 use Rattle.format.specs.Layout.{fields}
-use Rattle.format.specs.Table.{Table, front, limit}
+use Rattle.format.specs.Table.{Table, front, limit, pptt, Head}
 use Rattle.format.specs.Form.{processor, cache, memory, acpi, pci, rintc, domain, matrix, side, typeOf}
 use Rattle.format.specs.Node.{Node, sizes}
 use Rattle.format.specs.Kind.{Kind, Processor, Resource, Cache, Memory, Acpi, Pci, Rintc, Domain, Matrix, Initiator, Target, Cell, Side, Handle, kindOf, body}
-use Rattle.format.specs.Recipe.{Newest, aProcessor, aMatrix, aSide, other, newest, skip, added, fault}
-use Rattle.header.specs.Header.{tableNamed}
+use Rattle.format.specs.Recipe.{Newest, aProcessor, aMatrix, aSide, other, newest, skip, added, fault, cut, Meaning, run}
+use Rattle.header.specs.Header.{tableNamed, meant}
+use Rattle.header.specs.declared.Table as named
 use Rattle.recipe.specs.declared.Newest as kept
 use Rattle.recipe.specs.declared.Newest.the-variants as is
+use Rattle.recipe.specs.declared.Mark.{Mark}
+use Rattle.recipe.specs.declared.Marks.{Marks}
 use Rattle.recipe.specs.declared.State.{State}
 use Rattle.recipe.specs.declared.Refusal.the-variants.{TooLong}
 use Rattle.recipe.specs.declared.Step.{Step}
@@ -92,6 +95,34 @@ typesOf (n ∷ ns) = typesOf ns ++ (typeOf (n .form) ∷ [])
 abbrev pub names : List ℕ → ℕ → ℕ → ℕ → Bool
 names ts own to ty = pick (eqb to 0) false (pick (ltb to own) (eqb (getD ts (to - 1) none-made) ty) false)
 
+-- the ordinal that the reference of a record names, whose body is bs; 0 for none
+abbrev pub refers : Kind → List ℕ → ℕ
+refers Processor bs = value (part bs 4 4)
+refers Resource bs = value (part bs 0 4)
+refers Cache bs = value (part bs 1 4)
+refers Memory bs = 0
+refers Acpi bs = 0
+refers Pci bs = 0
+refers Rintc bs = 0
+refers Domain bs = 0
+refers Matrix bs = 0
+refers Initiator bs = 0
+refers Target bs = 0
+refers Cell bs = 0
+refers Side bs = 0
+refers Handle bs = 0
+
+-- f is the type of the node that a reference names, if it is one
+abbrev pub Finds : List ℕ → ℕ → ℕ → Type 0
+Finds ts to f = (to ≡ 0 → ⊥) → f ≡ getD ts (to - 1) none-made
+
+-- the nodes of a PPTT's recipe from a mark on are those that its place begins
+abbrev pub Leads : List ℕ → Mark → Type 0
+Leads r m = typesIn pptt 0 (drop (m .at) r) ≡ drop (m .nodes) (nodeTypes pptt r)
+
+abbrev pub Leading : List ℕ → Marks → Type 0
+Leading r m = Leads r (m .parent) × Leads r (m .cache)
+
 -- ---- one record
 
 abbrev pub stepped : ℕ → Step → Answer State
@@ -112,3 +143,26 @@ Begins r t ns = (rest : List ℕ) × (nodeTypes t r ≡ typesOf ns ++ rest)
 
 abbrev pub TurnsIn : List ℕ → Kind → List ℕ → State → Step → Type 0
 TurnsIn rs k bs s r = (t : Table) (ns : List Node) (p : ℕ) → s ≡ stateOf t ns → Begins rs t ns → stepped p r ≡ turn t ns k bs p
+
+-- where f is the type of the node that the record names
+abbrev pub TurnsFor : ℕ → Kind → List ℕ → State → Step → Type 0
+TurnsFor f k bs s r = (rs : List ℕ) → Finds (nodeTypes (meant (s .table)) rs) (refers k bs) f → TurnsIn rs k bs s r
+
+-- at a place of the recipe stands the whole record of a cell of an I by T matrix
+abbrev pub goodCell : List ℕ → ℕ → ℕ → ℕ → Bool
+goodCell r p i t = all (eqb (at r p) 52 ∷ leb (p + 5) (length r) ∷ ltb (at r (p + 1)) i ∷ ltb (at r (p + 2)) t ∷ [])
+
+-- ---- all records
+
+-- what the records behind the head mean
+abbrev pub whole : List ℕ → Head → Answer Meaning
+whole r h = run h 0 [] (cut (h .table) 0 28 (drop 28 r))
+
+-- what the state at a place stands for
+pub record Stands (r : List ℕ) (h : Head) (p : ℕ) (s : State) : Type 0 where
+  pub nodes : List Node
+  pub newer : ℕ  -- the place of the newest node's record
+  pub is : s ≡ stateOf (h .table) nodes
+  pub short : front (h .table) + sizes nodes ≤ limit
+  pub begun : nodeTypes (h .table) r ≡ typesOf nodes ++ typesIn (h .table) 0 (drop p r)
+  pub same : whole r h ≡ run h newer nodes (cut (h .table) 0 p (drop p r))

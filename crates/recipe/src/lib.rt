@@ -1,13 +1,13 @@
 // The recipe: the kinds of its records, and the pass that judges it whole before anything is written.
 ghost use mathlib.Core.Path.{_≡_};
-ghost use Prim.Native.Nat.{_+_, _≤_, _<_};
-ghost use mathlib.Core.List.{[]};
-ghost use mathlib.Core.Bool.{true};
-ghost use lib.ListN.{drop, getD};
-ghost use lib.Dec.{eqb};
+ghost use Prim.Native.Nat.{ℕ, _+_, _≤_, _<_};
+ghost use mathlib.Core.List.{List, []};
+ghost use mathlib.Core.Bool.{true, false};
+ghost use lib.ListN.{length, drop, getD};
+ghost use lib.Dec.{eqb, ltb};
 ghost use Rattle.format.specs.Bytes.{pick, all, part};
 ghost use Rattle.format.specs.Layout.{width, fields};
-ghost use Rattle.format.specs.Table.{limit, headOf};
+ghost use Rattle.format.specs.Table.{pptt, limit, Head, headOf};
 ghost use Rattle.format.specs.Form.{cache, matrix, side, size, cacheAttributes, ranges};
 ghost use Rattle.format.specs.Kind.{kindNumber, kindOf, body};
 ghost use Rattle.format.specs.Recipe.{cut, run, meaning};
@@ -15,7 +15,7 @@ ghost use Rattle.format.specs.Kind as format;
 ghost use Rattle.header.specs.Header.{meant};
 ghost use Rattle.recipe.specs.Kinds.{meantKind, named};
 ghost use Rattle.recipe.specs.Answers.{shown, outlined};
-ghost use Rattle.recipe.specs.Machine.{stateOf, Sound, grown, nodeTypes, makes, names, Turns, TurnsIn};
+ghost use Rattle.recipe.specs.Machine.{stateOf, Sound, grown, nodeTypes, makes, refers, Finds, Leads, Leading, Turns, TurnsFor, goodCell, Stands};
 use header::Table;
 
 // The kind of a head, and the length of its record.
@@ -148,6 +148,28 @@ impl Kind {
             Kind::Target => Self::NOTHING,
             Kind::Cell => Self::NOTHING,
             Kind::Handle => Self::NOTHING,
+        }
+    }
+
+    // The ordinal that a record of this kind names, whose body the bytes begin with; 0 for none.
+    pub fn refers(self, bytes: &[u8]) -> u32
+        ensures { λ r. ⌜ r ≡ refers (meantKind self) (now (bytes .entry)) ⌝ }
+    {
+        match self {
+            Kind::Processor => field::get_u32(bytes, 4),
+            Kind::Resource => field::get_u32(bytes, 0),
+            Kind::Cache => field::get_u32(bytes, 1),
+            Kind::Memory => 0,
+            Kind::Acpi => 0,
+            Kind::Pci => 0,
+            Kind::Rintc => 0,
+            Kind::Domain => 0,
+            Kind::Matrix => 0,
+            Kind::Initiator => 0,
+            Kind::Target => 0,
+            Kind::Cell => 0,
+            Kind::Side => 0,
+            Kind::Handle => 0,
         }
     }
 }
@@ -290,72 +312,183 @@ impl State {
 
 // ---- references
 
-// The type of the recipe's node i, counted from 0.
-fn node_type(recipe: &[u8], table: Table, i: usize) -> u8
-    ensures { λ r. ⌜ r ≡ getD (nodeTypes (meant table) (now (recipe .entry))) i 255 ⌝ }
+// A place in a PPTT's recipe, and how many nodes the records before it make.
+pub struct Mark {
+    pub nodes: usize,
+    pub at: usize,
+}
+
+// A node that was looked for: its record, and its type.
+pub struct Found {
+    pub mark: Mark,
+    pub ty: u8,
+}
+
+// The nodes that were named last, as a parent and as a cache, and the type of the last of all.
+pub struct Marks {
+    pub parent: Mark,
+    pub cache: Mark,
+    pub ty: u8,
+}
+
+impl Mark {
+    // The first record.
+    fn first() -> Self
+        ensures { λ r. ⌜ r ≡ record { nodes = 0; at = 28 } ⌝ }
+    {
+        Self {
+            nodes: 0,
+            at: HEAD_LEN,
+        }
+    }
+
+    // From where to look for node i, counted from 0: from here, unless that is past it.
+    fn up_to(self, i: usize) -> Self
+        ensures { λ r. ⌜ (r .nodes ≤ i) × ((rs : List ℕ) → Leads rs self → Leads rs r) ⌝ }
+    {
+        if i < self.nodes {
+            return Self::first();
+        }
+        self
+    }
+}
+
+// The recipe's node i, counted from 0, looked for from a mark on.
+fn find(recipe: &[u8], from: Mark, i: usize) -> Found
+    requires { ⌜ (from .nodes ≤ i) × Leads (now recipe) from ⌝ }
+    ensures { λ r. ⌜ Leads (now (recipe .entry)) (r .mark) × (r .ty ≡ getD (nodeTypes pptt (now (recipe .entry))) i 255) ⌝ }
 {
-    let mut at = HEAD_LEN;
-    let mut left = i;
+    let mut at = from.at;
+    let mut left = i - from.nodes;
     while at < recipe.len() {
-        let Named::As(kind) = kind_of(table, recipe[at]) else {
-            return Kind::NOTHING;
+        let Named::As(kind) = kind_of(Table::Pptt, recipe[at]) else {
+            return Found {
+                mark: from,
+                ty: Kind::NOTHING,
+            };
         };
-        let made = kind.makes();
+        let ty = kind.makes();
         let n = kind.body_len();
-        if made == Kind::NOTHING {
+        if ty == Kind::NOTHING {
             at = at + 1 + n;
         } else {
             if left == 0 {
-                return made;
+                return Found {
+                    mark: Mark { nodes: i, at },
+                    ty,
+                };
             }
             left = left - 1;
             at = at + 1 + n;
         }
     }
-    Kind::NOTHING
+    Found {
+        mark: from,
+        ty: Kind::NOTHING,
+    }
 }
 
-// A reference names a node of this type that is below the ordinal own.
-fn names(recipe: &[u8], st: State, own: usize, to: u32, ty: u8) -> bool
-    ensures { λ r. ⌜ r ≡ names (nodeTypes (meant (st .table)) (now (recipe .entry))) own to ty ⌝ }
+impl Marks {
+    // Of no nodes.
+    fn new() -> Self
+        ensures { λ r. ⌜ r ≡ record { parent = record { nodes = 0; at = 28 }; cache = record { nodes = 0; at = 28 }; ty = 255 } ⌝ }
+    {
+        let first = Mark::first();
+        Self {
+            parent: first,
+            cache: first,
+            ty: Kind::NOTHING,
+        }
+    }
+
+    // At the parent i, counted from 0.
+    fn at_parent(self, recipe: &[u8], i: usize) -> Self
+        requires { ⌜ Leading (now recipe) self ⌝ }
+        ensures { λ r. ⌜ Leading (now (recipe .entry)) r × (r .ty ≡ getD (nodeTypes pptt (now (recipe .entry))) i 255) ⌝ }
+    {
+        let parent = self.parent;
+        let cache = self.cache;
+        let found = find(recipe, parent.up_to(i), i);
+        let mark = found.mark;
+        Self {
+            parent: mark,
+            cache,
+            ty: found.ty,
+        }
+    }
+
+    // At the cache i, counted from 0.
+    fn at_cache(self, recipe: &[u8], i: usize) -> Self
+        requires { ⌜ Leading (now recipe) self ⌝ }
+        ensures { λ r. ⌜ Leading (now (recipe .entry)) r × (r .ty ≡ getD (nodeTypes pptt (now (recipe .entry))) i 255) ⌝ }
+    {
+        let parent = self.parent;
+        let cache = self.cache;
+        let found = find(recipe, cache.up_to(i), i);
+        let mark = found.mark;
+        Self {
+            parent,
+            cache: mark,
+            ty: found.ty,
+        }
+    }
+
+    // At the node that a record names, if it names one.
+    fn looked(self, recipe: &[u8], kind: Kind, bytes: &[u8]) -> Self
+        requires { ⌜ Leading (now recipe) self ⌝ }
+        ensures { λ r. ⌜ Leading (now (recipe .entry)) r × Finds (nodeTypes pptt (now (recipe .entry))) (refers (meantKind kind) (now (bytes .entry))) (r .ty) ⌝ }
+    {
+        let to = kind.refers(bytes);
+        if to == 0 {
+            return self;
+        }
+        let i = to as usize - 1;
+        match kind {
+            Kind::Processor => self.at_parent(recipe, i),
+            _ => self.at_cache(recipe, i),
+        }
+    }
+}
+
+// A reference is to a node below the ordinal own, and what was found there is of this type.
+fn names(found: u8, own: usize, to: u32, ty: u8) -> bool
+    ensures { λ r. ⌜ r ≡ pick (eqb to 0) false (pick (ltb to own) (eqb found ty) false) ⌝ }
 {
     if to == 0 {
         return false;
     }
-    let to = to as usize;
-    if own <= to {
+    if own <= to as usize {
         return false;
     }
-    let table = st.table;
-    node_type(recipe, table, to - 1) == ty
+    found == ty
 }
 
-fn names_or_none(recipe: &[u8], st: State, own: usize, to: u32, ty: u8) -> bool
-    ensures { λ r. ⌜ r ≡ pick (eqb to 0) true (names (nodeTypes (meant (st .table)) (now (recipe .entry))) own to ty) ⌝ }
+fn names_or_none(found: u8, own: usize, to: u32, ty: u8) -> bool
+    ensures { λ r. ⌜ r ≡ pick (eqb to 0) true (pick (ltb to own) (eqb found ty) false) ⌝ }
 {
     if to == 0 {
         return true;
     }
-    names(recipe, st, own, to, ty)
+    names(found, own, to, ty)
 }
 
 // ---- PPTT
 
-fn processor(recipe: &[u8], bytes: &[u8], st: State) -> Step
+fn processor(found: u8, bytes: &[u8], st: State) -> Step
     requires { ⌜ Sound st ⌝ }
-    ensures { λ r. ⌜ TurnsIn (now (recipe .entry)) format.Processor (now (bytes .entry)) st r ⌝ }
+    ensures { λ r. ⌜ TurnsFor found format.Processor (now (bytes .entry)) st r ⌝ }
 {
     let parent = field::get_u32(bytes, 4);
     let own = st.nodes + 1;
-    if !names_or_none(recipe, st, own, parent, PROCESSOR_TYPE) {
+    if !names_or_none(found, own, parent, PROCESSOR_TYPE) {
         return Step::Refused(Refusal::BadRef);
     }
     st.grown(own, 20, Newest::Processor(0))
 }
 
-fn resource(recipe: &[u8], bytes: &[u8], st: State) -> Step
+fn resource(found: u8, bytes: &[u8], st: State) -> Step
     requires { ⌜ Sound st ⌝ }
-    ensures { λ r. ⌜ TurnsIn (now (recipe .entry)) format.Resource (now (bytes .entry)) st r ⌝ }
+    ensures { λ r. ⌜ TurnsFor found format.Resource (now (bytes .entry)) st r ⌝ }
 {
     let newest = st.newest;
     let Newest::Processor(n) = newest else {
@@ -363,7 +496,7 @@ fn resource(recipe: &[u8], bytes: &[u8], st: State) -> Step
     };
     let own = st.nodes;
     let cache = field::get_u32(bytes, 0);
-    if !names(recipe, st, own, cache, CACHE_TYPE) {
+    if !names(found, own, cache, CACHE_TYPE) {
         return Step::Refused(Refusal::BadRef);
     }
     if 58 <= n {
@@ -429,16 +562,16 @@ fn is_good_cache(bytes: &[u8]) -> bool
     is_kept(flags / 128 % 2, field::get_u32(bytes, 17))
 }
 
-fn cache(recipe: &[u8], bytes: &[u8], st: State) -> Step
+fn cache(found: u8, bytes: &[u8], st: State) -> Step
     requires { ⌜ Sound st ⌝ }
-    ensures { λ r. ⌜ TurnsIn (now (recipe .entry)) format.Cache (now (bytes .entry)) st r ⌝ }
+    ensures { λ r. ⌜ TurnsFor found format.Cache (now (bytes .entry)) st r ⌝ }
 {
     if !is_good_cache(bytes) {
         return Step::Refused(Refusal::BadField);
     }
     let next_level = field::get_u32(bytes, 1);
     let own = st.nodes + 1;
-    if !names_or_none(recipe, st, own, next_level, CACHE_TYPE) {
+    if !names_or_none(found, own, next_level, CACHE_TYPE) {
         return Step::Refused(Refusal::BadRef);
     }
     st.grown(own, 28, Newest::Other)
@@ -614,15 +747,15 @@ fn handle(bytes: &[u8], st: State) -> Step
 
 // ---- the pass
 
-// One record, whose body the bytes begin with.
-fn judge(recipe: &[u8], kind: Kind, bytes: &[u8], st: State) -> Step
+// One record, whose body the bytes begin with; found: the type of the node that it names.
+fn judge(found: u8, kind: Kind, bytes: &[u8], st: State) -> Step
     requires { ⌜ Sound st ⌝ }
-    ensures { λ r. ⌜ TurnsIn (now (recipe .entry)) (meantKind kind) (now (bytes .entry)) st r ⌝ }
+    ensures { λ r. ⌜ TurnsFor found (meantKind kind) (now (bytes .entry)) st r ⌝ }
 {
     match kind {
-        Kind::Processor => processor(recipe, bytes, st),
-        Kind::Resource => resource(recipe, bytes, st),
-        Kind::Cache => cache(recipe, bytes, st),
+        Kind::Processor => processor(found, bytes, st),
+        Kind::Resource => resource(found, bytes, st),
+        Kind::Cache => cache(found, bytes, st),
         Kind::Memory => memory(bytes, st),
         Kind::Acpi => acpi(bytes, st),
         Kind::Pci => pci(bytes, st),
@@ -637,25 +770,67 @@ fn judge(recipe: &[u8], kind: Kind, bytes: &[u8], st: State) -> Step
     }
 }
 
+// At a place stands the whole record of a cell of an I by T matrix.
+fn is_good_cell(recipe: &[u8], at: usize, i: u8, t: u8) -> bool
+    requires { ⌜ at < length (now recipe) ⌝ }
+    ensures { λ r. ⌜ r ≡ goodCell (now (recipe .entry)) at i t ⌝ }
+{
+    if recipe[at] != Kind::CELL {
+        return false;
+    }
+    if recipe.len() - at < 5 {
+        return false;
+    }
+    if i <= recipe[at + 1] {
+        return false;
+    }
+    recipe[at + 2] < t
+}
+
+// The place behind the good cells that follow: they leave the state as it is.
+fn past_cells(recipe: &[u8], from: usize, st: State) -> usize
+    ensures { λ r. ⌜ (from ≤ r) × ((h : Head) → Stands (now (recipe .entry)) h from st → Stands (now (recipe .entry)) h r st) ⌝ }
+{
+    let table = st.table;
+    let Table::Hmat = table else {
+        return from;
+    };
+    let newest = st.newest;
+    let Newest::Matrix(i, t) = newest else {
+        return from;
+    };
+    let mut at = from;
+    while at < recipe.len() {
+        if !is_good_cell(recipe, at, i, t) {
+            return at;
+        }
+        at = at + 5;
+    }
+    at
+}
+
 // The records behind the head.
 fn walk(recipe: &[u8], table: Table) -> Checked
     ensures { λ r. ⌜ shown r ≡ outlined (run (headOf (meant table) (part (now (recipe .entry)) 2 26)) 0 [] (cut (meant table) 0 28 (drop 28 (now (recipe .entry))))) ⌝ }
 {
     let mut at = HEAD_LEN;
     let mut st = State::new(table);
+    let mut marks = Marks::new();
     while at < recipe.len() {
         let Named::As(kind) = kind_of(table, recipe[at]) else {
             return Checked::Refused(Refusal::BadKind, at);
         };
         let n = kind.body_len();
+        let end = at + 1 + n;
         let bytes = field::rest(recipe, at + 1);
         if bytes.len() < n {
             return Checked::Refused(Refusal::Cut, at);
         }
-        match judge(recipe, kind, bytes, st) {
+        marks = marks.looked(recipe, kind, bytes);
+        match judge(marks.ty, kind, bytes, st) {
             Step::Next(next) => {
                 st = next;
-                at = at + 1 + n;
+                at = past_cells(recipe, end, next);
             }
             Step::Refused(refusal) => {
                 return Checked::Refused(refusal, at);

@@ -10,14 +10,12 @@ use Rattle.build.proofs.add_resource.Tie as tie
 
 returns : tie.Need-returns
 unfolding body
-returns c = c .before .before .add-cache .ensures ∙ rw (fields-at asIs (body Resource) (c .before .before .before .before .before .before .before .before .before .args .bytes .now) 0, c .before .before .before .before .place-of .ensures, c .before .before .before .before .before .get-u32 .ensures)
+returns c = c .before .before .add-cache .ensures ∙ rw (fields-at asIs (body Resource) (c .before .before .before .before .before .before .args .bytes .now) 0, c .before .before .before .before .before .before .pre)
 
 pub add-resource-spec : {M : Type 1} → statement M
 add-resource-spec =
     tie.close
     (tie.spec
-    (λ c κs. search needs)
-    (λ c κs. search needs)
     (λ c κs. search needs)
     (λ c. search needs)
     returns)

@@ -65,11 +65,11 @@ put-spec =
     tie.close
     (tie.spec
     (λ c. search needs)
-    (λ c κs. search needs)
+    (λ c κs. rw (c .before .enum-told .given .1) at (c .before .before .before .before .before .before .pre .1))
     (λ c. search needs)
-    (λ c κs. search needs)
+    (λ c κs. rw (c .before .enum-told2 .given .1) at (c .before .before .before .before .before .before .pre .1))
     (λ c. search needs)
-    (λ c κs. search needs)
+    (λ c κs. rw (c .before .enum-told3 .given .1) at (c .before .before .before .before .before .before .pre .1))
     (λ c. search needs)
     (λ c κs. search needs)
     (λ c. search needs)

@@ -11,14 +11,12 @@ use Rattle.build.proofs.put_cache.Tie as tie
 
 returns : tie.Need-returns
 unfolding bytes layWith layout body
-returns c = c .before .before .put .ensures ∙ rw (fields-at asIs (body Cache) (c .before .before .before .before .before .before .before .before .before .before .before .before .before .before .before .before .args .bytes .now) 0, c .before .before .before .before .before .before .before .before .before .before .before .place-of .ensures, c .before .before .before .before .before .before .before .before .before .before .before .before .get-u32 .ensures, c .before .before .before .before .before .before .before .before .before .before .get-u8 .ensures, c .before .before .before .before .before .before .before .before .before .get-u322 .ensures, c .before .before .before .before .before .before .before .before .get-u323 .ensures, c .before .before .before .before .before .before .before .get-u82 .ensures, c .before .before .before .before .before .before .get-u83 .ensures, c .before .before .before .before .before .get-u16 .ensures, c .before .before .before .before .get-u324 .ensures)
+returns c = c .before .before .put .ensures ∙ rw (fields-at asIs (body Cache) (c .before .before .before .before .before .before .before .before .before .before .before .before .before .args .bytes .now) 0, c .before .before .before .before .before .before .before .before .before .before .before .before .before .pre, c .before .before .before .before .before .before .before .before .before .before .get-u8 .ensures, c .before .before .before .before .before .before .before .before .before .get-u32 .ensures, c .before .before .before .before .before .before .before .before .get-u322 .ensures, c .before .before .before .before .before .before .before .get-u82 .ensures, c .before .before .before .before .before .before .get-u83 .ensures, c .before .before .before .before .before .get-u16 .ensures, c .before .before .before .before .get-u323 .ensures)
 
 pub put-cache-spec : {M : Type 1} → statement M
 put-cache-spec =
     tie.close
     (tie.spec
-    (λ c κs. search needs)
-    (λ c κs. search needs)
     (λ c κs. search needs)
     (λ c. search needs)
     (λ c κs. search needs)

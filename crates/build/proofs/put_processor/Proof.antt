@@ -12,14 +12,12 @@ use Rattle.build.proofs.put_processor.Tie as tie
 
 returns : tie.Need-returns
 unfolding bytes layWith layout body fixedPart
-returns c = c .before .before .put .ensures ∙ rw (fields-at asIs (body Processor) (c .before .before .before .before .before .before .before .before .before .before .before .args .bytes .now) 0, c .before .before .before .before .before .before .place-of .ensures, c .before .before .before .before .before .before .before .get-u32 .ensures, c .before .before .before .before .before .get-u322 .ensures, c .before .before .before .before .get-u323 .ensures)
+returns c = c .before .before .put .ensures ∙ rw (fields-at asIs (body Processor) (c .before .before .before .before .before .before .before .before .args .bytes .now) 0, c .before .before .before .before .before .before .before .before .pre, c .before .before .before .before .before .get-u32 .ensures, c .before .before .before .before .get-u322 .ensures)
 
 pub put-processor-spec : {M : Type 1} → statement M
 put-processor-spec =
     tie.close
     (tie.spec
-    (λ c κs. search needs)
-    (λ c κs. search needs)
     (λ c κs. search needs)
     (λ c κs. search needs)
     (λ c κs. search needs)

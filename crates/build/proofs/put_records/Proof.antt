@@ -24,13 +24,19 @@ step-requires c κs =
     let y = c .before .before .before .before .before .before .pre in
     (c .before .if1 .taken, record { start = y .start; meant = y .meant; holds = l .inv .1 (y .start) (y .meant) (y .holds) })
 
+put-cells-requires : tie.Need-put-cells-requires Inv-loop μ-loop
+put-cells-requires c κs =
+    let l = c .before .before .before .before .before .before .before .loop in
+    let y = c .before .before .before .before .before .before .before .before .before .before .pre in
+    record { start = y .start; meant = y .meant; holds = c .before .before .before .step .ensures .1 (y .start) (y .meant) (l .inv .1 (y .start) (y .meant) (y .holds)) }
+
 loop-less : tie.Need-loop-less Inv-loop μ-loop
-loop-less c = omega (arith, c .before .before .step .ensures .0)
+loop-less c = omega (arith, c .before .before .before .before .before .before .step .ensures .0, c .before .before .put-cells .ensures .0)
 
 loop-again : tie.Need-loop-again Inv-loop μ-loop
 loop-again c =
-    let l = c .before .before .before .before .before .before .loop in
-    (search needs, λ xs m h. c .before .before .step .ensures .1 xs m (l .inv .1 xs m h))
+    let l = c .before .before .before .before .before .before .before .before .before .before .loop in
+    (search needs, λ xs m h. c .before .before .put-cells .ensures .1 xs m (c .before .before .before .before .before .before .step .ensures .1 xs m (l .inv .1 xs m h)))
 
 returns : tie.Need-returns Inv-loop μ-loop
 returns c = (c .if1 .left, c .before .before .loop .inv .1)
@@ -38,4 +44,4 @@ returns c = (c .if1 .left, c .before .before .loop .inv .1)
 pub put-records-spec : {M : Type 1} → statement M
 put-records-spec =
     tie.close
-    (tie.spec Inv-loop μ-loop loop-holds step-requires loop-less loop-again (λ c. search needs) returns)
+    (tie.spec Inv-loop μ-loop loop-holds step-requires put-cells-requires loop-less loop-again (λ c. search needs) returns)

@@ -11,7 +11,7 @@ use Rattle.format.specs.Kind.{kindOf}
 use Rattle.format.specs.Build.{checkOf}
 use Rattle.header.specs.Header.{meant}
 use Rattle.recipe.specs.Kinds.{meantKind, named}
-use Rattle.build.proofs.Steps.{small, whole, in-limit, stepped, unknown}
+use Rattle.build.proofs.Steps.{small, whole, leads-there, in-limit, stepped, unknown}
 use Rattle.build.proofs.step.Statement.{statement}
 use Rattle.build.proofs.step.Tie as tie
 
@@ -40,8 +40,21 @@ add-next c =
 change-of-requires : tie.Need-change-of-requires
 change-of-requires c κs = let b = c .before .before .before .before .before .before .before .before .before in small (b .args .recipe .now) (meant (b .args .table)) (b .args .s) (b .args .out .now) (b .pre .1)
 
+looked-requires : tie.Need-looked-requires
+looked-requires c κs =
+    let b = c .before .before .before .before .before .before .before .before .before .before .before .before .before .before .before .before in
+    let a = b .args in
+    let r = a .recipe .now in
+    let t = meant (a .table) in
+    let y = b .pre .1 in
+    let k = meantKind (c .before .before .before .before .before .before .before .before .before .before .kind .given .0 .0) in
+    let e : kindOf t (getD r (a .s .at) 0) ≡ some k = sym (c .before .before .before .before .before .before .before .before .before .before .before .before .kind-of .ensures) ∙ ap named (c .before .before .before .before .before .before .before .before .before .before .kind .given .1) in
+    leads-there (y .start) r t (y .meant) (a .s) (a .out .now) (y .holds) k (b .pre .0) e (c .before .before .before .before .before .before .before .rest .result .now) (c .before .before .before .before .before .before .change-of .result) (c .before .before .before .before .before .before .before .rest .ensures) (c .before .before .before .before .before .before .change-of .ensures)
+
 put-requires : tie.Need-put-requires
-put-requires c κs = let b = c .before .before .before .before .before .before .before .before .before .before .before .before .before .before .before .before in small (b .args .recipe .now) (meant (b .args .table)) (b .args .s) (b .args .out .now) (b .pre .1)
+put-requires c κs =
+    let b = c .before .before .before .before .before .before .before .before .before .before .before .before .before .before .before .before .before .before in
+    (small (b .args .recipe .now) (meant (b .args .table)) (b .args .s) (b .args .out .now) (b .pre .1), c .before .looked .ensures .0)
 
 add-end : tie.Need-add-end
 add-end c =
@@ -57,18 +70,6 @@ add-end c =
 
 summed-requires : tie.Need-summed-requires
 summed-requires c κs =
-    let b = c .before .before .before .before .before .before .before .before .before .before .before .before .before .before .before .before .before .before .before .before in
-    let a = b .args in
-    let r = a .recipe .now in
-    let t = meant (a .table) in
-    let y = b .pre .1 in
-    let k = meantKind (c .before .before .before .before .before .before .before .before .before .before .before .before .before .before .kind .given .0 .0) in
-    let e : kindOf t (getD r (a .s .at) 0) ≡ some k = sym (c .before .before .before .before .before .before .before .before .before .before .before .before .before .before .before .before .kind-of .ensures) ∙ ap named (c .before .before .before .before .before .before .before .before .before .before .before .before .before .before .kind .given .1) in
-    let l = in-limit (y .start) r t (y .meant) (a .s) (a .out .now) (y .holds) k (b .pre .0) e (c .before .before .before .before .before .before .before .before .before .before .before .rest .result .now) (c .before .before .before .before .before .before .before .before .before .before .change-of .result) (c .before .before .before .before .before .before .before .before .before .before .before .rest .ensures) (c .before .before .before .before .before .before .before .before .before .before .change-of .ensures) in
-    (omega arith, omega arith)
-
-returns-2 : tie.Need-returns-2
-returns-2 c =
     let b = c .before .before .before .before .before .before .before .before .before .before .before .before .before .before .before .before .before .before .before .before .before .before in
     let a = b .args in
     let r = a .recipe .now in
@@ -76,12 +77,24 @@ returns-2 c =
     let y = b .pre .1 in
     let k = meantKind (c .before .before .before .before .before .before .before .before .before .before .before .before .before .before .before .before .kind .given .0 .0) in
     let e : kindOf t (getD r (a .s .at) 0) ≡ some k = sym (c .before .before .before .before .before .before .before .before .before .before .before .before .before .before .before .before .before .before .kind-of .ensures) ∙ ap named (c .before .before .before .before .before .before .before .before .before .before .before .before .before .before .before .before .kind .given .1) in
-    let old = c .before .before .before .before .before .before .before .delete in
-    let f = old .ensures ∙ ap (λ (l : List ℕ). (a .s .sum .value + checkOf (sum l)) % 256) (c .before .before .before .before .before .before .before .before .part .ensures) in
-    let n = c .before .before .before .before .before .before .before .before .before .before .before .before .before .before .body-len .ensures in (
+    let l = in-limit (y .start) r t (y .meant) (a .s) (a .out .now) (y .holds) k (b .pre .0) e (c .before .before .before .before .before .before .before .before .before .before .before .before .before .rest .result .now) (c .before .before .before .before .before .before .before .before .before .before .before .before .change-of .result) (c .before .before .before .before .before .before .before .before .before .before .before .before .before .rest .ensures) (c .before .before .before .before .before .before .before .before .before .before .before .before .change-of .ensures) in
+    (omega arith, omega arith)
+
+returns-2 : tie.Need-returns-2
+returns-2 c =
+    let b = c .before .before .before .before .before .before .before .before .before .before .before .before .before .before .before .before .before .before .before .before .before .before .before .before in
+    let a = b .args in
+    let r = a .recipe .now in
+    let t = meant (a .table) in
+    let y = b .pre .1 in
+    let k = meantKind (c .before .before .before .before .before .before .before .before .before .before .before .before .before .before .before .before .before .before .kind .given .0 .0) in
+    let e : kindOf t (getD r (a .s .at) 0) ≡ some k = sym (c .before .before .before .before .before .before .before .before .before .before .before .before .before .before .before .before .before .before .before .before .kind-of .ensures) ∙ ap named (c .before .before .before .before .before .before .before .before .before .before .before .before .before .before .before .before .before .before .kind .given .1) in
+    let old = c .before .before .before .before .before .before .before .before .before .delete in
+    let f = old .ensures ∙ ap (λ (l : List ℕ). (a .s .sum .value + checkOf (sum l)) % 256) (c .before .before .before .before .before .before .before .before .before .before .part .ensures) in
+    let n = c .before .before .before .before .before .before .before .before .before .before .before .before .before .before .before .before .body-len .ensures in (
       omega (arith, n),
-      λ xs m h. stepped xs r t m (a .s) (a .out .now) h k (b .pre .0) e (c .before .before .before .before .before .before .before .before .before .before .before .before .before .rest .result .now) (c .before .before .before .before .before .before .before .before .before .before .before .before .change-of .result) (c .before .before .before .before .before .before .before .before .before .before .before .before .before .rest .ensures) (c .before .before .before .before .before .before .before .before .before .before .before .before .change-of .ensures)
-          _ _ (old .result .value) (c .before .before .before .before .before .put .ensures) (ap (λ (j : ℕ). a .s .at + 1 + j) n) refl refl f (c .before .summed .ensures),
+      λ xs m h. stepped xs r t m (a .s) (a .out .now) h k (b .pre .0) e (c .before .before .before .before .before .before .before .before .before .before .before .before .before .before .before .rest .result .now) (c .before .before .before .before .before .before .before .before .before .before .before .before .before .before .change-of .result) (c .before .before .before .before .before .before .before .before .before .before .before .before .before .before .before .rest .ensures) (c .before .before .before .before .before .before .before .before .before .before .before .before .before .before .change-of .ensures)
+          _ _ (old .result .value) (c .before .before .before .before .before .before .before .looked .ensures .1) (c .before .before .before .before .before .put .ensures) (ap (λ (j : ℕ). a .s .at + 1 + j) n) refl refl f (c .before .summed .ensures),
     )
 
 pub step-spec : {M : Type 1} → statement M
@@ -101,6 +114,7 @@ step-spec =
     add-end
     (λ c κs. search needs)
     (λ c κs. search needs)
+    looked-requires
     put-requires
     summed-requires
     (λ c. search needs)

@@ -7,26 +7,26 @@ use Rattle.recipe.proofs.cache.Statement.{statement}
 use Rattle.recipe.proofs.cache.Tie as tie
 
 returns : tie.Need-returns
-returns c t ns p e b =
-    let a = c .before .before .before .before .args in
-    sym (cache-turn t ns (a .st) e (a .recipe .now) b p (a .bytes .now) ∙ rw (fails (c .before .is-good-cache .ensures) (c .if1 .taken)))
+returns c rs found t ns p e b =
+    let a = c .before .before .before .args in
+    sym (cache-turn t ns (a .st) e rs b p (a .bytes .now) (a .found) found ∙ rw (fails (c .before .is-good-cache .ensures) (c .if1 .taken)))
 
 returns-2 : tie.Need-returns-2
-returns-2 c t ns p e b =
+returns-2 c rs found t ns p e b =
     let g = c .before .before .before in
     let d = g .before in
-    let a = d .before .before .before .before .args in
-    sym (cache-turn t ns (a .st) e (a .recipe .now) b p (a .bytes .now)
+    let a = d .before .before .before .args in
+    sym (cache-turn t ns (a .st) e rs b p (a .bytes .now) (a .found) found
     ∙ rw (passes (d .before .is-good-cache .ensures) (d .if1 .left), ← g .get-u32 .ensures, fails (c .before .names-or-none .ensures) (c .if2 .taken)))
 
 returns-3 : tie.Need-returns-3
-returns-3 c t ns p e b =
+returns-3 c rs found t ns p e b =
     let f = c .before in
     let g = f .before .before .before in
     let d = g .before in
-    let a = d .before .before .before .before .args in
+    let a = d .before .before .before .args in
     rw (c .grown .ensures)
-    (sym (cache-turn t ns (a .st) e (a .recipe .now) b p (a .bytes .now)
+    (sym (cache-turn t ns (a .st) e rs b p (a .bytes .now) (a .found) found
     ∙ rw (passes (d .before .is-good-cache .ensures) (d .if1 .left), ← g .get-u32 .ensures, passes (f .before .names-or-none .ensures) (f .if2 .left))))
 
 pub cache-spec : {M : Type 1} → statement M

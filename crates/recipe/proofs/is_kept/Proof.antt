@@ -1,17 +1,7 @@
-use native.Mathlib.Omega.{arith}
-use borrow.Author.Tests.{le-ltb, lt-ltb, le-leb, lt-leb, eq-eqb, ne-eqb, not-true, not-false}
+-- `is_kept` meets its contract: with the flag on every value is kept, and else 0 alone.
+use borrow.Author.Tests.{eq-eqb, ne-eqb}
 use Rattle.recipe.proofs.is_kept.Statement.{statement}
 use Rattle.recipe.proofs.is_kept.Tie as tie
-use Rattle.recipe.proofs.is_kept.Reads as reads
-use Rattle.recipe.proofs.is_kept.Lts as lts
-
--- src/lib.rt:364:9
-returns : tie.Need-returns
-returns c = simp (eq-eqb _ _ (c .if1 .taken))
-
--- src/lib.rt:360:1
-returns-2 : tie.Need-returns-2
-returns-2 c = simp (ne-eqb _ _ (c .if1 .left))
 
 pub is-kept-spec : {M : Type 1} → statement M
-is-kept-spec = tie.close (tie.spec returns returns-2)
+is-kept-spec = tie.close (tie.spec (λ c. simp (eq-eqb _ _ (c .if1 .taken))) (λ c. simp (ne-eqb _ _ (c .if1 .left))))

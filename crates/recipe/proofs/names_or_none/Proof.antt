@@ -9,4 +9,4 @@ returns-2 : tie.Need-returns-2
 returns-2 c = c .names .ensures ∙ rw (ne-eqb _ _ (c .before .if1 .left))
 
 pub names-or-none-spec : {M : Type 1} → statement M
-names-or-none-spec = tie.close (tie.spec (λ c. simp (eq-eqb _ _ (c .if1 .taken))) (λ c κs. search needs) returns-2)
+names-or-none-spec = tie.close (tie.spec (λ c. rw (eq-eqb _ _ (c .if1 .taken))) (λ c κs. search needs) returns-2)

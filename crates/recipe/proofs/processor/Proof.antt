@@ -7,17 +7,17 @@ use Rattle.recipe.proofs.processor.Statement.{statement}
 use Rattle.recipe.proofs.processor.Tie as tie
 
 returns : tie.Need-returns
-returns c t ns p e b =
+returns c rs found t ns p e b =
     let g = c .before .before .before in
-    let a = g .before .before .before .args in
-    sym (processor-turn t ns (a .st) e (a .recipe .now) b p (a .bytes .now) ∙ rw (← g .get-u32 .ensures, fails (c .before .names-or-none .ensures) (c .if1 .taken)))
+    let a = g .before .before .args in
+    sym (processor-turn t ns (a .st) e rs b p (a .bytes .now) (a .found) found ∙ rw (← g .get-u32 .ensures, fails (c .before .names-or-none .ensures) (c .if1 .taken)))
 
 returns-2 : tie.Need-returns-2
-returns-2 c t ns p e b =
+returns-2 c rs found t ns p e b =
     let d = c .before in
     let g = d .before .before .before in
-    let a = g .before .before .before .args in
-    rw (c .grown .ensures) (sym (processor-turn t ns (a .st) e (a .recipe .now) b p (a .bytes .now) ∙ rw (← g .get-u32 .ensures, passes (d .before .names-or-none .ensures) (d .if1 .left))))
+    let a = g .before .before .args in
+    rw (c .grown .ensures) (sym (processor-turn t ns (a .st) e rs b p (a .bytes .now) (a .found) found ∙ rw (← g .get-u32 .ensures, passes (d .before .names-or-none .ensures) (d .if1 .left))))
 
 pub processor-spec : {M : Type 1} → statement M
 processor-spec =

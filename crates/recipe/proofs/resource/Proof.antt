@@ -12,35 +12,35 @@ use Rattle.recipe.proofs.resource.Tie as tie
 
 returns : tie.Need-returns
 unfolding step
-returns c t ns p e b =
-    let a = c .before .before .before .args in
+returns c rs found t ns p e b =
+    let a = c .before .before .args in
     sym (turn-judged t ns Resource (a .bytes .now) p ∙ rw (stray-resource t ns (a .st) e (fields (body Resource) (a .bytes .now)) (c .match .keys2)))
 
 returns-2 : tie.Need-returns-2
-returns-2 c t ns p e b =
+returns-2 c rs found t ns p e b =
     let g = c .before .before in
     let n = g .before .before in
-    let a = n .before .before .before .before .args in
-    sym (resource-turn t (a .st) p (a .bytes .now) _ (a .recipe .now) ns e (n .newest .given .1) b ∙ rw (← g .get-u32 .ensures, fails (c .before .names .ensures) (c .if1 .taken)))
+    let a = n .before .before .before .args in
+    sym (resource-turn t (a .st) p (a .bytes .now) _ rs (a .found) found ns e (n .newest .given .1) b ∙ rw (← g .get-u32 .ensures, fails (c .before .names .ensures) (c .if1 .taken)))
 
 returns-3 : tie.Need-returns-3
-returns-3 c t ns p e b =
+returns-3 c rs found t ns p e b =
     let d = c .before in
     let g = d .before .before in
     let n = g .before .before in
-    let a = n .before .before .before .before .args in
-    sym (resource-turn t (a .st) p (a .bytes .now) _ (a .recipe .now) ns e (n .newest .given .1) b
+    let a = n .before .before .before .args in
+    sym (resource-turn t (a .st) p (a .bytes .now) _ rs (a .found) found ns e (n .newest .given .1) b
     ∙ rw (← g .get-u32 .ensures, passes (d .before .names .ensures) (d .if1 .left), le-leb _ _ (c .if2 .taken)))
 
 returns-4 : tie.Need-returns-4
-returns-4 c t ns p e b =
+returns-4 c rs found t ns p e b =
     let f = c .before in
     let d = f .before in
     let g = d .before .before in
     let n = g .before .before in
-    let a = n .before .before .before .before .args in
+    let a = n .before .before .before .args in
     rw (c .grown .ensures)
-    (sym (resource-turn t (a .st) p (a .bytes .now) _ (a .recipe .now) ns e (n .newest .given .1) b
+    (sym (resource-turn t (a .st) p (a .bytes .now) _ rs (a .found) found ns e (n .newest .given .1) b
     ∙ rw (← g .get-u32 .ensures, passes (d .before .names .ensures) (d .if1 .left), lt-leb _ _ (f .if2 .left))))
 
 pub resource-spec : {M : Type 1} → statement M

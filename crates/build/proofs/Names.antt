@@ -1,0 +1,127 @@
+-- A reference that is good names a record before its own: kind by kind, and so the marks stay right.
+use mathlib.Core.Path.{_≡_, refl}
+use Prim.Native.Nat.{ℕ, _≤_}
+use mathlib.Core.List.{List}
+use mathlib.Core.Bool.{Bool, true, false}
+use native.Mathlib.Omega.{arith}
+use lib.ListN.{length, drop}
+use lib.Dec.{eqb}
+use borrow.Author.Tests.{eqb-true}
+use Rattle.format.specs.Bytes.{pick, value, part}
+use Rattle.format.specs.Layout.{asIs, fields, refsGood}
+use Rattle.format.specs.Table.{Table, pptt}
+use Rattle.format.specs.Node.{Node, starts, atOrdinal}
+use Rattle.format.specs.Kind.{Kind, Processor, Resource, Cache, Memory, Acpi, Pci, Rintc, Domain, Matrix, Initiator, Target, Cell, Side, Handle, body}
+use Rattle.format.specs.Recipe.{resource, handle, setting, step, added}
+use Rattle.laws.proofs.Lays.{both-true}
+use Rattle.laws.proofs.Offsets.{fields-at}
+use Rattle.laws.proofs.Finds.{never}
+use Rattle.laws.proofs.Grows.{View, seesProcessor, seesMatrix, seesSide, seesOther, view, Passed, kindHome}
+use Rattle.recipe.specs.Machine.{refers}
+use Rattle.build.proofs.Walks.{length-starts}
+use Rattle.build.proofs.Agrees.{named-below}
+
+-- only a PPTT's records have a reference
+pub names-pptt : (k : Kind) (bs : List ℕ) → (refers k bs ≡ 0 → ⊥) → kindHome k ≡ pptt
+names-pptt Processor bs z = refl
+names-pptt Resource bs z = refl
+names-pptt Cache bs z = refl
+names-pptt Memory bs z = absurd (z refl)
+names-pptt Acpi bs z = absurd (z refl)
+names-pptt Pci bs z = absurd (z refl)
+names-pptt Rintc bs z = absurd (z refl)
+names-pptt Domain bs z = absurd (z refl)
+names-pptt Matrix bs z = absurd (z refl)
+names-pptt Initiator bs z = absurd (z refl)
+names-pptt Target bs z = absurd (z refl)
+names-pptt Cell bs z = absurd (z refl)
+names-pptt Side bs z = absurd (z refl)
+names-pptt Handle bs z = absurd (z refl)
+
+-- ---- the nodes before the newest are those before, or those before the newest before
+
+module _ (P : List Node → Type 0) where
+  resource-older : (vs : List ℕ) {ns : List Node} {x : _} → View ns x → resource vs x .placed ≡ true → P (drop 1 ns) → P (drop 1 (resource vs x .nodes))
+  unfolding resource
+  resource-older vs seesProcessor p h = h
+  resource-older vs seesMatrix p h = never p
+  resource-older vs seesSide p h = never p
+  resource-older vs seesOther p h = never p
+
+  handle-older : (vs : List ℕ) {ns : List Node} {x : _} → View ns x → handle vs x .placed ≡ true → P (drop 1 ns) → P (drop 1 (handle vs x .nodes))
+  unfolding handle
+  handle-older vs seesProcessor p h = never p
+  handle-older vs seesMatrix p h = never p
+  handle-older vs seesSide p h = h
+  handle-older vs seesOther p h = never p
+
+  setting-older : (tests : ℕ → ℕ → List Bool) (field : ℕ → ℕ → ℕ) (v : ℕ) {ns : List Node} {x : _} → View ns x → setting tests field v x .placed ≡ true → P (drop 1 ns) → P (drop 1 (setting tests field v x .nodes))
+  unfolding setting
+  setting-older tests field v seesProcessor p h = never p
+  setting-older tests field v seesMatrix p h = h
+  setting-older tests field v seesSide p h = never p
+  setting-older tests field v seesOther p h = never p
+
+  pub older-added : (k : Kind) (vs : List ℕ) (ns : List Node) → step k vs ns .placed ≡ true → P ns → P (drop 1 ns) → P (drop 1 (added k vs ns))
+  unfolding step
+  older-added Processor vs ns p h j = h
+  older-added Resource vs ns p h j = resource-older vs (view ns) p j
+  older-added Cache vs ns p h j = h
+  older-added Memory vs ns p h j = h
+  older-added Acpi vs ns p h j = h
+  older-added Pci vs ns p h j = h
+  older-added Rintc vs ns p h j = h
+  older-added Domain vs ns p h j = h
+  older-added Matrix vs ns p h j = h
+  older-added Initiator vs ns p h j = setting-older _ _ _ (view ns) p j
+  older-added Target vs ns p h j = setting-older _ _ _ (view ns) p j
+  older-added Cell vs ns p h j = setting-older _ _ _ (view ns) p j
+  older-added Side vs ns p h j = h
+  older-added Handle vs ns p h j = handle-older vs (view ns) p j
+
+-- ---- a good reference is below its record
+
+module _ (t : Table) (es : List Node) (bs : List ℕ) where
+  good-below : (v y : ℕ) → atOrdinal (starts t es) v y ≡ true → v ≤ length es
+  good-below v y h = rw (length-starts t es) at (named-below (starts t es) v y h)
+
+  or-none-below : (v y : ℕ) (x : Bool) → eqb v 0 ≡ x → pick x true (atOrdinal (starts t es) v y) ≡ true → v ≤ length es
+  or-none-below v y true q h = let z : v ≡ 0 = eqb-true v 0 q in omega arith
+  or-none-below v y false q h = good-below v y h
+
+  processor-below : refsGood (atOrdinal (starts t es)) (body Processor) (fields (body Processor) bs) ≡ true → value (part bs 4 4) ≤ length es
+  unfolding body refsGood
+  processor-below h = or-none-below (value (part bs 4 4)) 0 (eqb (value (part bs 4 4)) 0) refl (both-true _ true (rw (fields-at asIs (body Processor) bs 0) at h) .0)
+
+  cache-below : refsGood (atOrdinal (starts t es)) (body Cache) (fields (body Cache) bs) ≡ true → value (part bs 1 4) ≤ length es
+  unfolding body refsGood
+  cache-below h = or-none-below (value (part bs 1 4)) 1 (eqb (value (part bs 1 4)) 0) refl (both-true _ true (rw (fields-at asIs (body Cache) bs 0) at h) .0)
+
+  resource-below : refsGood (atOrdinal (starts t es)) (body Resource) (fields (body Resource) bs) ≡ true → value (part bs 0 4) ≤ length es
+  unfolding body refsGood
+  resource-below h = good-below (value (part bs 0 4)) 1 (both-true _ true (rw (fields-at asIs (body Resource) bs 0) at h) .0)
+
+joined-below : (t : Table) (bs vs : List ℕ) {ns : List Node} {x : _} → View ns x → vs ≡ fields (body Resource) bs → resource vs x .placed ≡ true
+    → refsGood (atOrdinal (starts t (resource vs x .earlier))) (body Resource) vs ≡ true → value (part bs 0 4) ≤ length (drop 1 (resource vs x .nodes))
+unfolding resource
+joined-below t bs vs (seesProcessor {n} {us} {ns}) e p h = resource-below t ns bs (rw e at h)
+joined-below t bs vs seesMatrix e p h = never p
+joined-below t bs vs seesSide e p h = never p
+joined-below t bs vs seesOther e p h = never p
+
+pub refers-below : (t : Table) (k : Kind) (bs : List ℕ) (ns : List Node) → Passed t ns k (fields (body k) bs) → refers k bs ≤ length (drop 1 (added k (fields (body k) bs) ns))
+unfolding step
+refers-below t Processor bs ns p = processor-below t ns bs (p .refs)
+refers-below t Resource bs ns p = joined-below t bs (fields (body Resource) bs) (view ns) refl (p .place) (p .refs)
+refers-below t Cache bs ns p = cache-below t ns bs (p .refs)
+refers-below t Memory bs ns p = omega arith
+refers-below t Acpi bs ns p = omega arith
+refers-below t Pci bs ns p = omega arith
+refers-below t Rintc bs ns p = omega arith
+refers-below t Domain bs ns p = omega arith
+refers-below t Matrix bs ns p = omega arith
+refers-below t Initiator bs ns p = omega arith
+refers-below t Target bs ns p = omega arith
+refers-below t Cell bs ns p = omega arith
+refers-below t Side bs ns p = omega arith
+refers-below t Handle bs ns p = omega arith

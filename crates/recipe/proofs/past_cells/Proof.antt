@@ -1,0 +1,68 @@
+-- `past_cells` meets its contract. The invariant: what a state with this matrix stands for at the first place, it stands for at the one that is reached.
+use mathlib.Core.Path.{_≡_}
+use Prim.Native.Nat.{_-_, _≤_}
+use native.Mathlib.Omega.{arith}
+use borrow.Author.Needs.{needs}
+use lib.ListN.{length}
+use Rattle.format.specs.Table.{Head}
+use Rattle.header.specs.declared.Table.the-variants.{Hmat}
+use Rattle.recipe.specs.declared.Newest.the-variants.{Matrix}
+use Rattle.recipe.specs.declared.State.{State}
+use Rattle.recipe.specs.Machine.{Stands}
+use Rattle.recipe.proofs.Numbers.{passes}
+use Rattle.recipe.proofs.Walks.{cell-fits, cell-passed}
+use Rattle.recipe.proofs.past_cells.Statement.{statement}
+use Rattle.recipe.proofs.past_cells.Tie as tie
+
+abbrev Inv-loop : tie.InvT-loop
+Inv-loop recipe from i t at₀ at =
+    (from ≤ at) × ((h : Head) (s : State) → s .table ≡ Hmat → s .newest ≡ Matrix i t → Stands recipe h from s → Stands recipe h at s)
+
+abbrev μ-loop : tie.MeasureT-loop
+μ-loop recipe from i t at₀ at = length recipe - at
+
+loop-holds : tie.Need-loop-holds Inv-loop μ-loop
+loop-holds c = (search needs, λ h s o n w. w)
+
+returns-3 : tie.Need-returns-3 Inv-loop μ-loop
+returns-3 c =
+    let l = c .before .before .before in
+    let n = l .before .before in
+    (l .loop .inv .0, λ h w. l .loop .inv .1 h _ (n .before .before .enum-told .given .1) (n .newest .given .1) w)
+
+add-at : tie.Need-add-at Inv-loop μ-loop
+add-at c =
+    let l = c .before .before .before in
+    let f = cell-fits (l .before .before .before .before .before .before .before .args .recipe .now) (l .loop .at) _ _ (passes (c .before .is-good-cell .ensures) (c .if1 .left)) in
+    omega (arith, f)
+
+loop-again : tie.Need-loop-again Inv-loop μ-loop
+loop-again c =
+    let l = c .before .before .before in (
+      omega (arith, l .loop .inv .0),
+      λ h s o n w. cell-passed _ h (l .loop .at) s (l .loop .inv .1 h s o n w) _ _ o n (c .before .before .loop-test .taken) (passes (c .before .is-good-cell .ensures) (c .if1 .left)),
+    )
+
+returns-4 : tie.Need-returns-4 Inv-loop μ-loop
+returns-4 c =
+    let l = c .before in
+    let n = l .before .before in
+    (l .loop .inv .0, λ h w. l .loop .inv .1 h _ (n .before .before .enum-told .given .1) (n .newest .given .1) w)
+
+pub past-cells-spec : {M : Type 1} → statement M
+past-cells-spec =
+    tie.close
+    (tie.spec
+    Inv-loop
+    μ-loop
+    (λ c. search needs)
+    (λ c. (search needs, λ h w. w))
+    (λ c. search needs)
+    (λ c. (search needs, λ h w. w))
+    loop-holds
+    (λ c κs. search needs)
+    returns-3
+    add-at
+    (λ c. search needs)
+    loop-again
+    returns-4)
