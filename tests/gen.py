@@ -140,6 +140,76 @@ def good_recipe(R, t=None, size=None):
     return head(R, t) + b''.join(good_records(R, t, node_size(R) if size is None else size))
 
 
+def small_pptts(left, nodes):
+    """the records of every PPTT of at most so many records, behind so many nodes, with every reference up to the own ordinal"""
+    yield b''
+    if left == 0:
+        return
+    for ref in range(nodes + 1):
+        for record, more in ((bytes([16]) + by(nodes, 4) + by(ref, 4) + by(7, 4), 1), (bytes([17]) + by(ref, 4), 0),
+                             (bytes([18, 0]) + by(ref, 4) + bytes(16), 1)):
+            for rest in small_pptts(left - 1, nodes + more):
+                yield record + rest
+
+
+def small_caches():
+    """a cache with every set of flags, and every attribute that the flags allow"""
+    for flags in range(256):
+        v = [x if flags >> i & 1 else 0 for i, x in enumerate((1 << 20, 64, 16, 2, 2, 1, 64, 9))]
+        for a, k, w in ((a, k, w) for a in range(v[3] + 1) for k in range(v[4] + 1) for w in range(v[5] + 1)):
+            yield bytes([18, flags]) + bytes(4) + by(v[0], 4) + by(v[1], 4) + bytes([v[2], a | k << 2 | w << 4]) + by(v[6], 2) + by(v[7], 4)
+
+
+def small_srats():
+    """each record with every value of its small fields"""
+    for flags in range(8):
+        yield bytes([32]) + by(1, 4) + by(2, 8) + by(3, 8) + bytes([flags])
+    for flags in range(4):
+        yield bytes([33]) + by(1, 4) + b'HIDHIDHI' + b'UID0' + bytes([flags])
+        for device in range(32):
+            for function in range(8):
+                yield bytes([34]) + by(1, 4) + by(258, 2) + bytes([3, device, function, flags])
+
+
+def small_hmats():
+    """a domain; a matrix with every value of its small fields, and every cell of the square ones up to 3 by 3 set, alone and after another; side caches"""
+    yield bytes([48]) + by(1, 4) + by(2, 4)
+    for flags in (f for f in range(64) if f & 0x0C == 0):
+        for data in range(6):
+            for size in range(12):
+                yield bytes([49, flags, data, size]) + by(1000, 8) + bytes([1, 1])
+    for n in range(1, 4):
+        matrix = bytes([49, 0, 1, 0]) + by(1000, 8) + bytes([n, n])
+        cells = [bytes([52, i, t]) + by(100 * i + t, 2) for i in range(n) for t in range(n)]
+        values = [bytes([kind, i]) + by(77 + i, 4) for kind in (50, 51) for i in range(n)]
+        for one in cells + values:
+            yield matrix + one
+            for other in cells + values:
+                yield matrix + one + other
+    for levels, level, ways, policy in ((a, b, c, d) for a in range(4) for b in range(4) for c in range(3) for d in range(3)):
+        side = bytes([53]) + by(1, 4) + by(1 << 33, 8) + by(levels | level << 4 | ways << 8 | policy << 12 | 64 << 16, 4)
+        for n in range(3):
+            yield side + b''.join(bytes([54]) + by(4096 + h, 2) for h in range(n))
+
+
+def small():
+    """every small recipe, with the crate's creator fields"""
+    for t, records in ((0, small_pptts(4, 0)), (0, small_caches()), (1, small_srats()), (2, small_hmats())):
+        for r in records:
+            yield bytes([1, t]) + b'OEMOEMTABLETAB' + by(1, 4) + CREATOR + r
+
+
+def largest():
+    """recipes at the limits, with the crate's creator fields: tables of nearly 1,048,576 bytes, 58 resources, 65,535 handles"""
+    cache, memory = bytes([18, 0]) + bytes(20), bytes([32]) + by(5, 4) + by(6, 8) + by(7, 8) + bytes([3])
+    matrix = bytes([49, 0, 0, 0]) + by(1, 8) + bytes([255, 255])
+    cells = b''.join(bytes([52, c // 255, c % 255]) + by(c, 2) for c in range(255 * 255))
+    for t, records in ((0, (bytes([16]) + by(1, 4) + by(0, 4) + by(2, 4)) * 52427), (0, (cache + bytes([16]) + bytes(12) + bytes([17, 1, 0, 0, 0]) * 58)),
+                       (0, bytes([16]) + bytes(12) + (bytes([16]) + by(9, 4) + by(1, 4) + by(3, 4)) * 52426), (1, memory * 26213),
+                       (2, matrix + cells), (2, matrix * 7), (2, bytes([53]) + bytes(16) + bytes([54, 1, 2]) * 65535), (2, (bytes([48]) + by(1, 4) + by(2, 4)) * 26213)):
+        yield bytes([1, t]) + b'OEMOEMTABLETAB' + by(1, 4) + CREATOR + records
+
+
 def rand_record(R, t):
     """one record of table t, by itself, fields good if they can be"""
     k = R.choice(KINDS[t])
