@@ -78,4 +78,4 @@ module _ (xs r : List ℕ) (m : Meaning) (s : State) (out : List ℕ) (h : Held 
       let z : u ≡ (w + sum (part o place 2) + sum (part o (s .end) 0) + checkOf (sum (le 4 (s .end))) + sum (le 4 (s .end + 0))) % 256 =
       eu ∙ shift (s .sum .value + checkOf (sum (part out place 2))) (sum cs) ∙ rw n (sum-still w (sum cs) o (s .end) 0 refl) in
       rw (eo, ← wrote-is) (goes xs r hmat m s out h Cell l is-cell (record { at = s .at + 5; end = s .end; latest = s .latest; sum = record { value = u }; marks = s .marks }) w
-      (λ es f p q. (p, q)) (omega arith) (sym (add-zero (s .end))) refl (rw (said .0, said .1)) (rw (wrote-is, said .0, said .1) z))
+      (λ es f p q b. (p, q, b)) (omega arith) (sym (add-zero (s .end))) refl (rw (said .0, said .1)) (rw (wrote-is, said .0, said .1) z))

@@ -145,18 +145,18 @@ module _ (xs r : List ℕ) (t : Table) (m : Meaning) (s : State) (out : List ℕ
     reached : (refers k (drop (suc (s .at)) r) ≡ 0 → ⊥) → Reaches out (h .nodes)
     reached z = reaches t xs fs (h .nodes) out (sym own ∙ names-pptt k (drop (suc (s .at)) r) z) (laid .long) held-room (h .good) (h .held)
 
-    pub leading : (refers k (drop (suc (s .at)) r) ≡ 0 → ⊥) → Leads out (s .marks .parent) × Leads out (s .marks .cache)
+    pub leading : (refers k (drop (suc (s .at)) r) ≡ 0 → ⊥) → Leads out (s .marks .parent) × Leads out (s .marks .cache) × Leads out (s .marks .back)
     leading z =
         let e : t ≡ pptt = sym own ∙ names-pptt k (drop (suc (s .at)) r) z in
         let es = drop 1 (h .nodes) in
         let d = reaches-older out (h .nodes) (reached z) in
         let l : front t + sizes es ≤ limit = omega (arith, older t (h .nodes), h .short) in
         let l′ : 36 + sizes es ≤ limit = rw e at l in
-        (marked-leads out es (s .marks .parent) l′ d (h .parent), marked-leads out es (s .marks .cache) l′ d (h .cache))
+        (marked-leads out es (s .marks .parent) l′ d (h .parent), marked-leads out es (s .marks .cache) l′ d (h .cache), marked-leads out es (s .marks .back) l′ d (h .back))
 
     -- the marks of the state after it
     module _ (ms : Marks) (kept : Keeps out (refers k (drop (suc (s .at)) r)) (s .marks) ms) where
-      marked : Marked (drop 1 (added k vs (h .nodes))) (ms .parent) × Marked (drop 1 (added k vs (h .nodes))) (ms .cache)
+      marked : Marked (drop 1 (added k vs (h .nodes))) (ms .parent) × Marked (drop 1 (added k vs (h .nodes))) (ms .cache) × Marked (drop 1 (added k vs (h .nodes))) (ms .back)
       marked =
           let y = passed t (h .nodes) k vs (found .sound) in
           let p = y .place in
@@ -164,6 +164,7 @@ module _ (xs r : List ℕ) (t : Table) (m : Meaning) (s : State) (out : List ℕ
           (λ z. (refers-below t k (drop (suc (s .at)) r) (h .nodes) y, older-added (Reaches out) k vs (h .nodes) p (reached z) (reaches-older out (h .nodes) (reached z))))
           (older-added (λ es. Marked es (s .marks .parent)) k vs (h .nodes) p (marked-newer (h .nodes) (s .marks .parent) (h .parent)) (h .parent))
           (older-added (λ es. Marked es (s .marks .cache)) k vs (h .nodes) p (marked-newer (h .nodes) (s .marks .cache) (h .cache)) (h .cache))
+          (older-added (λ es. Marked es (s .marks .back)) k vs (h .nodes) p (marked-newer (h .nodes) (s .marks .back) (h .back)) (h .back))
 
     pub goes : (s′ : State) (w : ℕ) → Keeps out (refers k (drop (suc (s .at)) r)) (s .marks) (s′ .marks) → s′ .at ≡ suc (s .at) + width (body k) → s′ .end ≡ s .end + changeOf k s vs .more → s′ .latest ≡ changeOf k s vs .latest
         → w ≡ (s .sum .value + checkOf (sum (part out (changeOf k s vs .from) (changeOf k s vs .len)))) % 256
@@ -188,6 +189,7 @@ module _ (xs r : List ℕ) (t : Table) (m : Meaning) (s : State) (out : List ℕ
           held = turns .held;
           parent = marked (s′ .marks) keep .0;
           cache = marked (s′ .marks) keep .1;
+          back = marked (s′ .marks) keep .2;
           sums = sum-turned turns (h .held) more-room (s .end) (sum (header (headIn t r) 0 0 0)) (sum (le 4 (s .end))) (sum (le 4 (s .end + changeOf k s vs .more))) (s .sum .value) w (s′ .sum .value) b
               (h .sums ∙ ap (λ (n : ℕ). n % 256) (sum-front (headIn t r) (s .end) (records t (h .nodes)))) ew eu
               ∙ ap (λ (n : ℕ). n % 256) (rw ee (sym (sum-front (headIn t r) (s .end + changeOf k s vs .more) (records t (added k vs (h .nodes))))));
@@ -201,7 +203,7 @@ module _ (xs r : List ℕ) (t : Table) (m : Meaning) (s : State) (out : List ℕ
       body-is : bs ≡ drop (suc (s .at)) r
       body-is = eb ∙ ap (λ (n : ℕ). drop n r) (add-one (s .at))
 
-      pub leads-there : (refers k bs ≡ 0 → ⊥) → Leads out (s .marks .parent) × Leads out (s .marks .cache)
+      pub leads-there : (refers k bs ≡ 0 → ⊥) → Leads out (s .marks .parent) × Leads out (s .marks .cache) × Leads out (s .marks .back)
       leads-there z = leading (λ e. z (ap (refers k) body-is ∙ e))
 
       pub in-limit : s .end + c .more ≤ limit
@@ -228,10 +230,10 @@ module _ (r : List ℕ) (t : Table) (s : State) (out : List ℕ) (y : Ready r t 
 
 pub started : (xs r : List ℕ) (t : Table) (m : Meaning) (s : State) (out ps : List ℕ) (d f : ℕ) → Bytes r → Builds r t (length xs) → meaning r ≡ given m
     → out ≡ over xs 0 (frontOf t r (front t)) → s .at ≡ 28 → s .end ≡ front t → s .latest .place ≡ front t → s .latest .count ≡ 0
-    → s .marks .parent ≡ record { nodes = 0; place = 36 } → s .marks .cache ≡ record { nodes = 0; place = 36 } → d ≡ 0 → f ≡ front t → ps ≡ part out 0 f → s .sum .value ≡ (d + sum ps) % 256
+    → s .marks .parent ≡ record { nodes = 0; place = 36 } → s .marks .cache ≡ record { nodes = 0; place = 36 } → s .marks .back ≡ record { nodes = 0; place = 36 } → d ≡ 0 → f ≡ front t → ps ≡ part out 0 f → s .sum .value ≡ (d + sum ps) % 256
     → Held xs r t m s out
 unfolding sizes records
-started xs r t m s out ps d f bytes b e held sat send splace scount sparent scache ed ef ep es =
+started xs r t m s out ps d f bytes b e held sat send splace scount sparent scache sback ed ef ep es =
     let (n, own, leads) = from-head r m e in
     let same : b .meant ≡ m = cc (b .means) in
     let for : m .head .table ≡ t = rw same at (b .for) in
@@ -255,6 +257,7 @@ started xs r t m s out ps d f bytes b e held sat send splace scount sparent scac
       held = rw append-nil held;
       parent = rw sparent (omega arith, refl);
       cache = rw scache (omega arith, refl);
+      back = rw sback (omega arith, refl);
       sums = rw (send, append-nil) (es ∙ rw (ed, ep, ef, z, zero-add));
     }
 

@@ -51,8 +51,8 @@ Reaches bs es = (i : ℕ) → i ≤ length es → hops bs i 36 ≡ placeAfter es
 -- marks that were right are right after they moved to the record that a reference names, if it is one
 abbrev pub Keeps : List ℕ → ℕ → Marks → Marks → Type 0
 Keeps bs to m m′ =
-    (es : List Node) → ((to ≡ 0 → ⊥) → (to ≤ length es) × Reaches bs es) → Marked es (m .parent) → Marked es (m .cache)
-    → Marked es (m′ .parent) × Marked es (m′ .cache)
+    (es : List Node) → ((to ≡ 0 → ⊥) → (to ≤ length es) × Reaches bs es) → Marked es (m .parent) → Marked es (m .cache) → Marked es (m .back)
+    → Marked es (m′ .parent) × Marked es (m′ .cache) × Marked es (m′ .back)
 
 -- ---- the pass
 
@@ -73,6 +73,7 @@ pub record Held (xs r : List ℕ) (t : Table) (m : Meaning) (s : State) (out : L
   pub held : out ≡ over xs 0 (frontOf t r (front t) ++ records t nodes)
   pub parent : Marked (drop 1 nodes) (s .marks .parent)
   pub cache : Marked (drop 1 nodes) (s .marks .cache)
+  pub back : Marked (drop 1 nodes) (s .marks .back)
   pub sums : s .sum .value ≡ sum (frontOf t r (s .end) ++ records t nodes) % 256
 
 -- the same of some buffer and some meaning: what a step relies on

@@ -53,10 +53,11 @@ pub struct Mark {
     pub place: usize,
 }
 
-// The records that were named last, as a parent and as a cache, and what is written for the last of all: its place, or 0.
+// The record that was named last as a parent, the farthest one named as a cache, the last one named before that, and what is written for the last of all: its place, or 0.
 pub struct Marks {
     pub parent: Mark,
     pub cache: Mark,
+    pub back: Mark,
     pub named: u32,
 }
 
@@ -179,18 +180,47 @@ impl Mark {
 }
 
 impl Marks {
+    // At a cache, the record that is counted to from 1: on from the farthest, or before it.
+    fn at_cache(self, out: &[u8], to: u32) -> Self
+        requires { ⌜ (to ≡ 0 → ⊥) × Leads (now out) (self .cache) × Leads (now out) (self .back) ⌝ }
+        ensures { λ r. ⌜ (r .named ≡ placeIn (now (out .entry)) to) × Keeps (now (out .entry)) to self r ⌝ }
+    {
+        let parent = self.parent;
+        let cache = self.cache;
+        let back = self.back;
+        let i = to - 1;
+        if i < cache.nodes {
+            let mark = back.up_to(i).reached(out, i);
+            return Self {
+                parent,
+                cache,
+                back: mark,
+                named: (mark.place % 4294967296) as u32,
+            };
+        }
+        let mark = cache.reached(out, i);
+        Self {
+            parent,
+            cache: mark,
+            back,
+            named: (mark.place % 4294967296) as u32,
+        }
+    }
+
     // At the record that a record of the recipe names, if it names one.
     fn looked(self, out: &[u8], kind: Kind, bytes: &[u8]) -> Self
-        requires { ⌜ ((refers (meantKind kind) (now bytes) ≡ 0 → ⊥) → Leads (now out) (self .parent) × Leads (now out) (self .cache)) ⌝ }
+        requires { ⌜ ((refers (meantKind kind) (now bytes) ≡ 0 → ⊥) → Leads (now out) (self .parent) × Leads (now out) (self .cache) × Leads (now out) (self .back)) ⌝ }
         ensures { λ r. ⌜ (r .named ≡ placeIn (now (out .entry)) (refers (meantKind kind) (now (bytes .entry)))) × Keeps (now (out .entry)) (refers (meantKind kind) (now (bytes .entry))) self r ⌝ }
     {
         let parent = self.parent;
         let cache = self.cache;
+        let back = self.back;
         let to = kind.refers(bytes);
         if to == 0 {
             return Self {
                 parent,
                 cache,
+                back,
                 named: 0,
             };
         }
@@ -200,17 +230,11 @@ impl Marks {
                 Self {
                     parent: mark,
                     cache,
+                    back,
                     named: (mark.place % 4294967296) as u32,
                 }
             }
-            _ => {
-                let mark = cache.up_to(to - 1).reached(out, to - 1);
-                Self {
-                    parent,
-                    cache: mark,
-                    named: (mark.place % 4294967296) as u32,
-                }
-            }
+            _ => self.at_cache(out, to),
         }
     }
 }
@@ -633,6 +657,7 @@ fn start(recipe: &[u8], table: Table, out: &mut [u8]) -> State
         marks: Marks {
             parent: Mark::first(),
             cache: Mark::first(),
+            back: Mark::first(),
             named: 0,
         },
     }

@@ -121,7 +121,7 @@ abbrev pub Leads : List ℕ → Mark → Type 0
 Leads r m = typesIn pptt 0 (drop (m .at) r) ≡ drop (m .nodes) (nodeTypes pptt r)
 
 abbrev pub Leading : List ℕ → Marks → Type 0
-Leading r m = Leads r (m .parent) × Leads r (m .cache)
+Leading r m = Leads r (m .parent) × Leads r (m .cache) × Leads r (m .back)
 
 -- ---- one record
 

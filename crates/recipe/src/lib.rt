@@ -324,10 +324,11 @@ pub struct Found {
     pub ty: u8,
 }
 
-// The nodes that were named last, as a parent and as a cache, and the type of the last of all.
+// The node that was named last as a parent, the farthest one named as a cache, the last one named before that, and the type of the last of all.
 pub struct Marks {
     pub parent: Mark,
     pub cache: Mark,
+    pub back: Mark,
     pub ty: u8,
 }
 
@@ -391,12 +392,13 @@ fn find(recipe: &[u8], from: Mark, i: usize) -> Found
 impl Marks {
     // Of no nodes.
     fn new() -> Self
-        ensures { λ r. ⌜ r ≡ record { parent = record { nodes = 0; at = 28 }; cache = record { nodes = 0; at = 28 }; ty = 255 } ⌝ }
+        ensures { λ r. ⌜ r ≡ record { parent = record { nodes = 0; at = 28 }; cache = record { nodes = 0; at = 28 }; back = record { nodes = 0; at = 28 }; ty = 255 } ⌝ }
     {
         let first = Mark::first();
         Self {
             parent: first,
             cache: first,
+            back: first,
             ty: Kind::NOTHING,
         }
     }
@@ -408,11 +410,13 @@ impl Marks {
     {
         let parent = self.parent;
         let cache = self.cache;
+        let back = self.back;
         let found = find(recipe, parent.up_to(i), i);
         let mark = found.mark;
         Self {
             parent: mark,
             cache,
+            back,
             ty: found.ty,
         }
     }
@@ -424,11 +428,23 @@ impl Marks {
     {
         let parent = self.parent;
         let cache = self.cache;
-        let found = find(recipe, cache.up_to(i), i);
+        let back = self.back;
+        if i < cache.nodes {
+            let found = find(recipe, back.up_to(i), i);
+            let mark = found.mark;
+            return Self {
+                parent,
+                cache,
+                back: mark,
+                ty: found.ty,
+            };
+        }
+        let found = find(recipe, cache, i);
         let mark = found.mark;
         Self {
             parent,
             cache: mark,
+            back,
             ty: found.ty,
         }
     }

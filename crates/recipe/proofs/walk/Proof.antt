@@ -22,7 +22,7 @@ abbrev μ-loop : tie.MeasureT-loop
 μ-loop recipe table at₀ st₀ marks₀ at st marks = length recipe - at
 
 loop-holds : tie.Need-loop-holds Inv-loop μ-loop
-loop-holds c = rw (c .before .new .ensures, c .new2 .ensures) (starts-so _ _, (refl, refl))
+loop-holds c = rw (c .before .new .ensures, c .new2 .ensures) (starts-so _ _, (refl, refl, refl))
 
 returns : tie.Need-returns Inv-loop μ-loop
 returns c =

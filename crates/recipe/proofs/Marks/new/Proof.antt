@@ -1,4 +1,4 @@
--- `Marks::new` meets its contract: both marks are at the first record.
+-- `Marks::new` meets its contract: the marks are at the first record.
 use borrow.Author.Needs.{needs}
 use Rattle.recipe.proofs.Marks.new.Statement.{statement}
 use Rattle.recipe.proofs.Marks.new.Tie as tie
