@@ -1,29 +1,63 @@
 -- A cell of the newest matrix, by the bytes of its record: a turn of the pass in which only the place, the sum and two bytes of the buffer change.
-use mathlib.Core.Path.{_≡_, refl, sym, _∙_}
-use Prim.Native.Nat.{ℕ, suc, _+_, _*_, _%_, _≤_, _<_}
+use mathlib.Core.Path.{_≡_, refl, ap, sym, _∙_}
+use Prim.Native.Nat.{ℕ, suc, _+_, _-_, _*_, _%_, _^_, _≤_, _<_, min}
 use mathlib.Core.List.{List}
 use mathlib.Core.Option.{some}
 use native.Mathlib.Omega.{arith}
 use native.Mathlib.Nat.{add-zero}
-use lib.ListN.{length, drop, getD}
+use lib.ListN.{length, take, drop, getD}
+use lib.Seq.{drop-drop}
 use Rattle.format.specs.Bytes.{at, le, value, part, over, sum}
 use Rattle.format.specs.Layout.{asIs, width, fields}
 use Rattle.format.specs.Table.{hmat}
 use Rattle.format.specs.Kind.{Cell, kindOf, body}
 use Rattle.format.specs.Recipe.{Meaning}
 use Rattle.format.specs.Build.{checkOf}
-use Rattle.laws.proofs.Bytes.{length-le, value-byte}
+use Rattle.laws.proofs.Bytes.{length-le, value-byte, part-take}
 use Rattle.laws.proofs.Offsets.{fields-at}
 use Rattle.header.specs.declared.Table as named
 use Rattle.header.specs.declared.Table.the-variants.{Hmat}
 use Rattle.header.specs.Header.{meant}
+use Rattle.hmat.specs.declared.Cell as declared
+use Rattle.hmat.specs.Settings.{cellFields}
 use Rattle.build.specs.declared.State.{State}
 use Rattle.build.specs.Write.{changeOf, wrote}
 use Rattle.build.specs.Held.{Held, Ready, Goes}
 use Rattle.build.proofs.Sums.{part-over, sum-still}
 use Rattle.build.proofs.Steps.{whole, in-buffer, goes}
 
--- what a run of cells relies on
+-- ---- a cell, read in the n bytes behind the kind byte at p
+
+window : (r : List ℕ) (p n i k : ℕ) → i + k ≤ n → value (part (take n (drop p r)) i k) ≡ value (part r (p + i) k)
+unfolding part
+window r p n i k h = rw (part-take (drop p r) n i k h, drop-drop i p r)
+
+module _ (r : List ℕ) (p n : ℕ) (c : declared.Cell) (e : cellFields c ≡ fields (body Cell) (take n (drop (p + 1) r))) (h : 4 ≤ n) where
+  read : (c .«initiator_idx» ≡ at r (p + 1)) × (c .«target_idx» ≡ at r (p + 2)) × (c .value ≡ value (part r (p + 3) 2))
+  unfolding body
+  read =
+      let g = e ∙ fields-at asIs (body Cell) (take n (drop (p + 1) r)) 0 in
+      let one : p + 1 + 0 ≡ p + 1 = omega arith in
+      let two : p + 1 + 1 ≡ p + 2 = omega arith in
+      let three : p + 1 + 2 ≡ p + 3 = omega arith in
+      let i = ap (λ (vs : List ℕ). at vs 0) g ∙ window r (p + 1) n 0 1 (omega arith) in
+      let t = ap (λ (vs : List ℕ). at vs 1) g ∙ window r (p + 1) n 1 1 (omega arith) in
+      let v = ap (λ (vs : List ℕ). at vs 2) g ∙ window r (p + 1) n 2 2 (omega arith) in
+      (rw one at i ∙ sym (value-byte r (p + 1)), rw two at t ∙ sym (value-byte r (p + 2)), rw three at v)
+
+  pub value-is : c .value ≡ value (part r (p + 3) 2)
+  value-is = read .2
+
+  -- a place in a buffer of l bytes is exact
+  pub entry-exact : (cells t l q : ℕ) → q ≡ min (cells + 2 * (c .«initiator_idx» * t + c .«target_idx»)) (2 ^ 64 - 1)
+      → cells + 2 * (at r (p + 1) * t + at r (p + 2)) + 2 ≤ l → l < 2 ^ 64 → q ≡ cells + 2 * (at r (p + 1) * t + at r (p + 2))
+  entry-exact cells t l q f k s =
+      let g : q ≡ min (cells + 2 * (at r (p + 1) * t + at r (p + 2))) (2 ^ 64 - 1) = rw (read .0, read .1) at f in
+      omega arith
+
+-- ---- in a run of cells
+
+-- what it relies on
 pub held-at : (r : List ℕ) (u : named.Table) (s s′ : State) (out out′ : List ℕ) → u ≡ Hmat → (y : Ready r (meant u) s out) → Goes r hmat s out s′ out′ → Held (y .start) r hmat (y .meant) s′ out′
 held-at r u s s′ out out′ e y g = g (y .start) (y .meant) (rw e at (y .holds))
 

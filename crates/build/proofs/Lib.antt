@@ -5,6 +5,8 @@ pub mod Sums
 pub mod Headers
 pub mod Turns
 pub mod Names
+pub mod Plains
+pub mod Places
 pub mod Whole
 pub mod Steps
 pub mod Cells

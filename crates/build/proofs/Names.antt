@@ -7,14 +7,14 @@ use native.Mathlib.Omega.{arith}
 use lib.ListN.{length, drop}
 use lib.Dec.{eqb}
 use borrow.Author.Tests.{eqb-true}
-use Rattle.format.specs.Bytes.{pick, value, part}
-use Rattle.format.specs.Layout.{asIs, fields, refsGood}
+use Rattle.format.specs.Bytes.{pick, at}
+use Rattle.format.specs.Layout.{fields, refsGood}
 use Rattle.format.specs.Table.{Table, pptt}
 use Rattle.format.specs.Node.{Node, starts, atOrdinal}
 use Rattle.format.specs.Kind.{Kind, Processor, Resource, Cache, Memory, Acpi, Pci, Rintc, Domain, Matrix, Initiator, Target, Cell, Side, Handle, body}
 use Rattle.format.specs.Recipe.{resource, handle, setting, step, added}
 use Rattle.laws.proofs.Lays.{both-true}
-use Rattle.laws.proofs.Offsets.{fields-at}
+use Rattle.laws.proofs.Fits.{second}
 use Rattle.laws.proofs.Finds.{never}
 use Rattle.laws.proofs.Grows.{View, seesProcessor, seesMatrix, seesSide, seesOther, view, Passed, kindHome}
 use Rattle.recipe.specs.Machine.{refers}
@@ -81,7 +81,7 @@ module _ (P : List Node → Type 0) where
 
 -- ---- a good reference is below its record
 
-module _ (t : Table) (es : List Node) (bs : List ℕ) where
+module _ (t : Table) (es : List Node) (vs : List ℕ) where
   good-below : (v y : ℕ) → atOrdinal (starts t es) v y ≡ true → v ≤ length es
   good-below v y h = rw (length-starts t es) at (named-below (starts t es) v y h)
 
@@ -89,31 +89,31 @@ module _ (t : Table) (es : List Node) (bs : List ℕ) where
   or-none-below v y true q h = let z : v ≡ 0 = eqb-true v 0 q in omega arith
   or-none-below v y false q h = good-below v y h
 
-  processor-below : refsGood (atOrdinal (starts t es)) (body Processor) (fields (body Processor) bs) ≡ true → value (part bs 4 4) ≤ length es
+  processor-below : refsGood (atOrdinal (starts t es)) (body Processor) vs ≡ true → at vs 1 ≤ length es
   unfolding body refsGood
-  processor-below h = or-none-below (value (part bs 4 4)) 0 (eqb (value (part bs 4 4)) 0) refl (both-true _ true (rw (fields-at asIs (body Processor) bs 0) at h) .0)
+  processor-below h = or-none-below (at vs 1) 0 (eqb (at vs 1) 0) refl (both-true _ true (rw (← second vs) at h) .0)
 
-  cache-below : refsGood (atOrdinal (starts t es)) (body Cache) (fields (body Cache) bs) ≡ true → value (part bs 1 4) ≤ length es
+  cache-below : refsGood (atOrdinal (starts t es)) (body Cache) vs ≡ true → at vs 1 ≤ length es
   unfolding body refsGood
-  cache-below h = or-none-below (value (part bs 1 4)) 1 (eqb (value (part bs 1 4)) 0) refl (both-true _ true (rw (fields-at asIs (body Cache) bs 0) at h) .0)
+  cache-below h = or-none-below (at vs 1) 1 (eqb (at vs 1) 0) refl (both-true _ true (rw (← second vs) at h) .0)
 
-  resource-below : refsGood (atOrdinal (starts t es)) (body Resource) (fields (body Resource) bs) ≡ true → value (part bs 0 4) ≤ length es
+  resource-below : refsGood (atOrdinal (starts t es)) (body Resource) vs ≡ true → at vs 0 ≤ length es
   unfolding body refsGood
-  resource-below h = good-below (value (part bs 0 4)) 1 (both-true _ true (rw (fields-at asIs (body Resource) bs 0) at h) .0)
+  resource-below h = good-below (at vs 0) 1 (both-true _ true h .0)
 
-joined-below : (t : Table) (bs vs : List ℕ) {ns : List Node} {x : _} → View ns x → vs ≡ fields (body Resource) bs → resource vs x .placed ≡ true
-    → refsGood (atOrdinal (starts t (resource vs x .earlier))) (body Resource) vs ≡ true → value (part bs 0 4) ≤ length (drop 1 (resource vs x .nodes))
+joined-below : (t : Table) (vs : List ℕ) {ns : List Node} {x : _} → View ns x → resource vs x .placed ≡ true
+    → refsGood (atOrdinal (starts t (resource vs x .earlier))) (body Resource) vs ≡ true → at vs 0 ≤ length (drop 1 (resource vs x .nodes))
 unfolding resource
-joined-below t bs vs (seesProcessor {n} {us} {ns}) e p h = resource-below t ns bs (rw e at h)
-joined-below t bs vs seesMatrix e p h = never p
-joined-below t bs vs seesSide e p h = never p
-joined-below t bs vs seesOther e p h = never p
+joined-below t vs (seesProcessor {n} {us} {ns}) p h = resource-below t ns vs h
+joined-below t vs seesMatrix p h = never p
+joined-below t vs seesSide p h = never p
+joined-below t vs seesOther p h = never p
 
 pub refers-below : (t : Table) (k : Kind) (bs : List ℕ) (ns : List Node) → Passed t ns k (fields (body k) bs) → refers k bs ≤ length (drop 1 (added k (fields (body k) bs) ns))
 unfolding step
-refers-below t Processor bs ns p = processor-below t ns bs (p .refs)
-refers-below t Resource bs ns p = joined-below t bs (fields (body Resource) bs) (view ns) refl (p .place) (p .refs)
-refers-below t Cache bs ns p = cache-below t ns bs (p .refs)
+refers-below t Processor bs ns p = processor-below t ns (fields (body Processor) bs) (p .refs)
+refers-below t Resource bs ns p = joined-below t (fields (body Resource) bs) (view ns) (p .place) (p .refs)
+refers-below t Cache bs ns p = cache-below t ns (fields (body Cache) bs) (p .refs)
 refers-below t Memory bs ns p = omega arith
 refers-below t Acpi bs ns p = omega arith
 refers-below t Pci bs ns p = omega arith

@@ -21,12 +21,14 @@ use Rattle.laws.proofs.Good.{Good}
 use Rattle.laws.proofs.Grows.{passed, kindHome, grows}
 use Rattle.laws.proofs.Builds.{body-fits, kind-home}
 use Rattle.recipe.specs.Machine.{refers}
-use Rattle.build.specs.declared.Marks.{Marks}
+use Rattle.marks.specs.declared.Marks.{Marks}
+use Rattle.marks.specs.Marks.{all}
 use Rattle.build.specs.declared.State.{State}
 use Rattle.build.specs.declared.Change.{Change}
 use Rattle.build.specs.Write.{changeOf, wrote}
-use Rattle.build.specs.Held.{headIn, frontOf, Marked, Leads, Reaches, Keeps, Held, Ready, Small, Builds}
-use Rattle.build.proofs.Numbers.{front-small, front-long}
+use Rattle.build.specs.Held.{headIn, frontOf, Marked, Leading, Reaches, Keeps, Held, Ready, Small, Builds}
+use Rattle.header.proofs.Laws.{front-small}
+use Rattle.build.proofs.Numbers.{front-long}
 use Rattle.build.proofs.Headers.{header-any, finished}
 use Rattle.build.proofs.Sums.{part-laid, sum-front, sum-moves}
 use Rattle.build.proofs.Turns.{Laid, Turned, turned}
@@ -145,7 +147,7 @@ module _ (xs r : List ℕ) (t : Table) (m : Meaning) (s : State) (out : List ℕ
     reached : (refers k (drop (suc (s .at)) r) ≡ 0 → ⊥) → Reaches out (h .nodes)
     reached z = reaches t xs fs (h .nodes) out (sym own ∙ names-pptt k (drop (suc (s .at)) r) z) (laid .long) held-room (h .good) (h .held)
 
-    pub leading : (refers k (drop (suc (s .at)) r) ≡ 0 → ⊥) → Leads out (s .marks .parent) × Leads out (s .marks .cache) × Leads out (s .marks .back)
+    pub leading : (refers k (drop (suc (s .at)) r) ≡ 0 → ⊥) → Leading out (s .marks)
     leading z =
         let e : t ≡ pptt = sym own ∙ names-pptt k (drop (suc (s .at)) r) z in
         let es = drop 1 (h .nodes) in
@@ -203,7 +205,7 @@ module _ (xs r : List ℕ) (t : Table) (m : Meaning) (s : State) (out : List ℕ
       body-is : bs ≡ drop (suc (s .at)) r
       body-is = eb ∙ ap (λ (n : ℕ). drop n r) (add-one (s .at))
 
-      pub leads-there : (refers k bs ≡ 0 → ⊥) → Leads out (s .marks .parent) × Leads out (s .marks .cache) × Leads out (s .marks .back)
+      pub leads-there : (refers k bs ≡ 0 → ⊥) → Leading out (s .marks)
       leads-there z = leading (λ e. z (ap (refers k) body-is ∙ e))
 
       pub in-limit : s .end + c .more ≤ limit
@@ -230,10 +232,10 @@ module _ (r : List ℕ) (t : Table) (s : State) (out : List ℕ) (y : Ready r t 
 
 pub started : (xs r : List ℕ) (t : Table) (m : Meaning) (s : State) (out ps : List ℕ) (d f : ℕ) → Bytes r → Builds r t (length xs) → meaning r ≡ given m
     → out ≡ over xs 0 (frontOf t r (front t)) → s .at ≡ 28 → s .end ≡ front t → s .latest .place ≡ front t → s .latest .count ≡ 0
-    → s .marks .parent ≡ record { nodes = 0; place = 36 } → s .marks .cache ≡ record { nodes = 0; place = 36 } → s .marks .back ≡ record { nodes = 0; place = 36 } → d ≡ 0 → f ≡ front t → ps ≡ part out 0 f → s .sum .value ≡ (d + sum ps) % 256
+    → s .marks ≡ all (record { nodes = 0; place = 36 }) → d ≡ 0 → f ≡ front t → ps ≡ part out 0 f → s .sum .value ≡ (d + sum ps) % 256
     → Held xs r t m s out
 unfolding sizes records
-started xs r t m s out ps d f bytes b e held sat send splace scount sparent scache sback ed ef ep es =
+started xs r t m s out ps d f bytes b e held sat send splace scount smarks ed ef ep es =
     let (n, own, leads) = from-head r m e in
     let same : b .meant ≡ m = cc (b .means) in
     let for : m .head .table ≡ t = rw same at (b .for) in
@@ -255,9 +257,9 @@ started xs r t m s out ps d f bytes b e held sat send splace scount sparent scac
       counts = tt;
       few = omega arith;
       held = rw append-nil held;
-      parent = rw sparent (omega arith, refl);
-      cache = rw scache (omega arith, refl);
-      back = rw sback (omega arith, refl);
+      parent = rw smarks (omega arith, refl);
+      cache = rw smarks (omega arith, refl);
+      back = rw smarks (omega arith, refl);
       sums = rw (send, append-nil) (es ∙ rw (ed, ep, ef, z, zero-add));
     }
 

@@ -21,7 +21,7 @@ use Rattle.laws.proofs.Shapes.{Within, tableFor}
 use Rattle.laws.proofs.Heads.{length-records}
 use Rattle.laws.proofs.Links.{place-zero, place-below, starts-rise}
 use Rattle.laws.proofs.Good.{Good}
-use Rattle.build.specs.declared.Mark.{Mark}
+use Rattle.marks.specs.declared.Mark.{Mark}
 use Rattle.build.specs.Write.{hops, placeIn}
 use Rattle.build.specs.Held.{placeAfter, Marked, Leads, Reaches}
 

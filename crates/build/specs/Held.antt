@@ -10,10 +10,13 @@ use Rattle.format.specs.Recipe.{Meaning, Newest, aProcessor, aMatrix, aSide, ot
 use Rattle.format.specs.Build.{records, header}
 use Rattle.laws.proofs.Good.{Good}
 use Rattle.build.specs.declared.Latest.{Latest}
-use Rattle.build.specs.declared.Mark.{Mark}
-use Rattle.build.specs.declared.Marks.{Marks}
+use Rattle.marks.specs.declared.Mark.{Mark}
+use Rattle.marks.specs.declared.Marks.{Marks}
+use Rattle.recipe.specs.declared.Reference.{Reference}
+use Rattle.recipe.specs.declared.Reference.the-variants as names
+use Rattle.build.specs.declared.Found.{Found}
 use Rattle.build.specs.declared.State.{State}
-use Rattle.build.specs.Write.{hops}
+use Rattle.build.specs.Write.{hops, placeIn}
 
 -- the head of a recipe for a table
 abbrev pub headIn : Table → List ℕ → Head
@@ -43,6 +46,16 @@ Marked es m = (m .nodes ≤ length es) × (m .place ≡ placeAfter es (m .nodes)
 -- hops lead to a mark
 abbrev pub Leads : List ℕ → Mark → Type 0
 Leads bs m = (m .place ≤ limit) × (hops bs (m .nodes) 36 ≡ m .place)
+
+-- and to all three
+abbrev pub Leading : List ℕ → Marks → Type 0
+Leading bs m = Leads bs (m .parent) × Leads bs (m .cache) × Leads bs (m .back)
+
+-- what was found is the place of the record that a reference names, or 0
+abbrev pub Placed : List ℕ → Reference → Found → Type 0
+Placed bs (names.Processor h) f = f .processor .0 ≡ placeIn bs (h .0)
+Placed bs (names.Cache h) f = f .cache .0 ≡ placeIn bs (h .0)
+Placed bs names.Nothing f = Unit
 
 -- hops lead to every record
 abbrev pub Reaches : List ℕ → List Node → Type 0

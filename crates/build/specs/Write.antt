@@ -4,6 +4,7 @@ use mathlib.Core.List.{List}
 use lib.Dec.{eqb}
 use Rattle.format.specs.Bytes.{pick, at, le, over}
 use Rattle.format.specs.Form.{processor, cache, memory, acpi, pci, rintc, domain, matrix, side, size}
+use Rattle.format.specs.Layout.{fld, to, wide}
 use Rattle.format.specs.Node.{Node, node, bytes}
 use Rattle.format.specs.Kind.{Kind, Processor, Resource, Cache, Memory, Acpi, Pci, Rintc, Domain, Matrix, Initiator, Target, Cell, Side, Handle}
 use Rattle.format.specs.Recipe.{unset}
@@ -81,17 +82,17 @@ setting s x = record { from = settingAt s x; len = matrices.wideIn x; more = 0; 
 
 -- what a record of a kind changes: so many bytes from a place on, so many more at the end
 unfoldable pub changeOf : Kind → State → List ℕ → Change
-changeOf Processor s vs = making s 20 0 0
-changeOf Resource s vs = growing s 20 4
-changeOf Cache s vs = making s 28 0 0
-changeOf Memory s vs = making s 40 0 0
-changeOf Acpi s vs = making s 32 0 0
-changeOf Pci s vs = making s 32 0 0
-changeOf Rintc s vs = making s 16 0 0
-changeOf Domain s vs = making s 40 0 0
+changeOf Processor s vs = making s (size (processor 0)) 0 0
+changeOf Resource s vs = growing s (size (processor 0)) (wide (to 1))
+changeOf Cache s vs = making s (size cache) 0 0
+changeOf Memory s vs = making s (size memory) 0 0
+changeOf Acpi s vs = making s (size acpi) 0 0
+changeOf Pci s vs = making s (size pci) 0 0
+changeOf Rintc s vs = making s (size rintc) 0 0
+changeOf Domain s vs = making s (size domain) 0 0
 changeOf Matrix s vs = making s (size (matrix (at vs 4) (at vs 5))) (at vs 4) (at vs 5)
 changeOf Initiator s vs = setting s (initiator (at vs 0) (at vs 1))
 changeOf Target s vs = setting s (target (at vs 0) (at vs 1))
 changeOf Cell s vs = setting s (cell (at vs 0) (at vs 1) (at vs 2))
-changeOf Side s vs = making s 32 0 0
-changeOf Handle s vs = growing s 32 2
+changeOf Side s vs = making s (size (side 0)) 0 0
+changeOf Handle s vs = growing s (size (side 0)) (wide (fld 2))

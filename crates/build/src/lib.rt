@@ -6,36 +6,38 @@ ghost use lib.ListN.{length};
 ghost use Rattle.format.specs.Bytes.{at as atByte, le, value, part, over, sum as sumOf, given};
 ghost use Rattle.format.specs.Layout.{fields};
 ghost use Rattle.format.specs.Table.{front, limit};
-ghost use Rattle.format.specs.Form.{processor, cache, memory, acpi, pci, rintc, domain, matrix, side};
-ghost use Rattle.format.specs.Node.{node};
 ghost use Rattle.format.specs.Kind.{body};
 ghost use Rattle.format.specs.Kind as format;
 ghost use Rattle.format.specs.Recipe.{Meaning, meaning};
 ghost use Rattle.format.specs.Build.{checkOf, build, table as tableOf, built};
 ghost use Rattle.header.specs.Header.{meant};
-ghost use Rattle.recipe.specs.Kinds.{meantKind};
-ghost use Rattle.recipe.specs.Machine.{refers};
-ghost use Rattle.pptt.specs.Processor.{grown};
-ghost use Rattle.hmat.specs.Hmat.{grown as grownSide};
-ghost use Rattle.build.specs.Write.{hops, placeIn, appended, unsetMatrix, wrote, making, growing, changeOf};
-ghost use Rattle.build.specs.Held.{frontOf, Leads, Keeps, Held, Ready, Goes, Small, Builds};
+ghost use Rattle.recipe.specs.Kinds.{meantKind, referenceOf, ordinalIn};
+ghost use Rattle.build.specs.Write.{hops, placeIn, wrote, making, growing, changeOf};
+ghost use Rattle.build.specs.Held.{frontOf, Leads, Leading, Placed, Keeps, Held, Ready, Goes, Small, Builds};
 ghost use Rattle.recipe.specs.Answers.{number};
 ghost use Rattle.build.specs.Answers.{shown, numberIn, placeOf};
 use header::Checksum;
 use header::Table;
+use header::TableHeader;
+use hmat::Cell;
 use hmat::MemoryProximityDomain;
 use hmat::MemorySideCache;
+use hmat::SmbiosHandle;
 use hmat::SystemLocality;
+use hmat::Value;
+use marks::Mark;
+use marks::Marks;
 use pptt::CacheHandle;
 use pptt::CacheNode;
 use pptt::ProcessorHandle;
 use pptt::ProcessorNode;
+use pptt::Resource;
 use recipe::Checked;
 use recipe::Kind;
 use recipe::Named;
+use recipe::Reference;
 use recipe::Refusal;
 use srat::GenericInitiator;
-use srat::Handle;
 use srat::MemoryAffinity;
 use srat::RintcAffinity;
 
@@ -43,22 +45,15 @@ use srat::RintcAffinity;
 pub struct Latest {
     pub place: usize,
     pub count: u32,
-    pub initiators: u8,
-    pub targets: u8,
+    pub initiators: u32,
+    pub targets: u32,
 }
 
-// A record of a PPTT: how many stand before it, and its place.
-pub struct Mark {
-    pub nodes: u32,
-    pub place: usize,
-}
-
-// The record that was named last as a parent, the farthest one named as a cache, the last one named before that, and what is written for the last of all: its place, or 0.
-pub struct Marks {
-    pub parent: Mark,
-    pub cache: Mark,
-    pub back: Mark,
-    pub named: u32,
+// The marks, and the place of the record that was looked for last: a processor's, or a cache's.
+pub struct Found {
+    pub marks: Marks,
+    pub processor: ProcessorHandle,
+    pub cache: CacheHandle,
 }
 
 // Where the pass stands: the next record of the recipe, the end of the table, its newest record, the sum of its bytes, and the records that were named last.
@@ -125,318 +120,169 @@ impl Built {
     }
 }
 
-// At most n bytes from a place on.
-fn part(s: &[u8], at: usize, n: usize) -> &[u8]
-    ensures { λ r. ⌜ now r ≡ part (now (s .entry)) at n ⌝ }
-{
-    let len = s.len();
-    if len <= at {
-        return &s[len..];
-    }
-    if len - at <= n {
-        return &s[at..];
-    }
-    let end = at + n;
-    &s[at..end]
-}
-
 // ---- references
 
-impl Mark {
-    // The first record.
-    fn first() -> Self
-        ensures { λ r. ⌜ r ≡ record { nodes = 0; place = 36 } ⌝ }
-    {
-        Self {
-            nodes: 0,
-            place: Table::PPTT_FRONT,
-        }
-    }
-
-    // From where to walk to record i, counted from 0: from here, unless that is past it.
-    fn up_to(self, i: u32) -> Self
-        ensures { λ r. ⌜ (r .nodes ≤ i) × ((bs : List ℕ) → Leads bs self → Leads bs r) ⌝ }
-    {
-        if i < self.nodes {
-            return Self::first();
-        }
-        self
-    }
-
-    // Record i, counted from 0, by the lengths of those before it.
-    fn reached(self, out: &[u8], i: u32) -> Self
-        requires { ⌜ (self .nodes ≤ i) × Leads (now out) self ⌝ }
-        ensures { λ r. ⌜ r ≡ record { nodes = i; place = hops (now (out .entry)) i 36 } ⌝ }
-    {
-        let mut place = self.place;
-        let mut nodes = self.nodes;
-        while nodes < i {
-            let n = field::get_u8(out, place + 1);
-            place += n as usize;
-            nodes += 1;
-        }
-        Self { nodes: i, place }
+// The first record.
+fn first() -> Mark
+    ensures { λ r. ⌜ r ≡ record { nodes = 0; place = 36 } ⌝ }
+{
+    Mark {
+        nodes: 0,
+        place: Table::PPTT_FRONT,
     }
 }
 
-impl Marks {
-    // At a cache, the record that is counted to from 1: on from the farthest, or before it.
-    fn at_cache(self, out: &[u8], to: u32) -> Self
-        requires { ⌜ (to ≡ 0 → ⊥) × Leads (now out) (self .cache) × Leads (now out) (self .back) ⌝ }
-        ensures { λ r. ⌜ (r .named ≡ placeIn (now (out .entry)) to) × Keeps (now (out .entry)) to self r ⌝ }
-    {
-        let parent = self.parent;
-        let cache = self.cache;
-        let back = self.back;
-        let i = to - 1;
-        if i < cache.nodes {
-            let mark = back.up_to(i).reached(out, i);
-            return Self {
-                parent,
-                cache,
-                back: mark,
-                named: (mark.place % 4294967296) as u32,
-            };
-        }
-        let mark = cache.reached(out, i);
-        Self {
-            parent,
-            cache: mark,
-            back,
-            named: (mark.place % 4294967296) as u32,
-        }
+// Record i, counted from 0, by the lengths of those before it.
+fn reached(out: &[u8], from: Mark, i: usize) -> Mark
+    requires { ⌜ (from .nodes ≤ i) × (i < 4294967296) × Leads (now out) from ⌝ }
+    ensures { λ r. ⌜ r ≡ record { nodes = i; place = hops (now (out .entry)) i 36 } ⌝ }
+{
+    let mut place = from.place;
+    let mut nodes = from.nodes;
+    while nodes < i {
+        place += field::get_u8(out, place + pptt::LENGTH_AT) as usize;
+        nodes += 1;
     }
+    Mark { nodes: i, place }
+}
 
-    // At the record that a record of the recipe names, if it names one.
-    fn looked(self, out: &[u8], kind: Kind, bytes: &[u8]) -> Self
-        requires { ⌜ ((refers (meantKind kind) (now bytes) ≡ 0 → ⊥) → Leads (now out) (self .parent) × Leads (now out) (self .cache) × Leads (now out) (self .back)) ⌝ }
-        ensures { λ r. ⌜ (r .named ≡ placeIn (now (out .entry)) (refers (meantKind kind) (now (bytes .entry)))) × Keeps (now (out .entry)) (refers (meantKind kind) (now (bytes .entry))) self r ⌝ }
-    {
-        let parent = self.parent;
-        let cache = self.cache;
-        let back = self.back;
-        let to = kind.refers(bytes);
-        if to == 0 {
-            return Self {
-                parent,
-                cache,
-                back,
-                named: 0,
-            };
-        }
-        match kind {
-            Kind::Processor => {
-                let mark = parent.up_to(to - 1).reached(out, to - 1);
-                Self {
-                    parent: mark,
-                    cache,
-                    back,
-                    named: (mark.place % 4294967296) as u32,
-                }
-            }
-            _ => self.at_cache(out, to),
-        }
+// At the parent that a processor names, if it names one.
+fn processor_at(out: &[u8], marks: Marks, h: ProcessorHandle) -> Found
+    requires { ⌜ ((h .0 ≡ 0 → ⊥) → Leading (now out) marks) ⌝ }
+    ensures { λ r. ⌜ (r .processor .0 ≡ placeIn (now (out .entry)) (h .0)) × Keeps (now (out .entry)) (h .0) marks (r .marks) ⌝ }
+{
+    if h.0 == 0 {
+        return Found {
+            marks,
+            processor: h,
+            cache: CacheHandle::NONE,
+        };
+    }
+    let i = h.0 as usize - 1;
+    let mark = reached(out, marks.toward_parent(first(), i), i);
+    Found {
+        marks: marks.at_parent(mark),
+        processor: ProcessorHandle((mark.place % 4294967296) as u32),
+        cache: CacheHandle::NONE,
     }
 }
 
-// ---- PPTT
-
-fn put_processor(bytes: &[u8], out: &mut [u8], at: usize, parent: u32)
-    requires { ⌜ parent ≡ placeIn (now out) (refers format.Processor (now bytes)) ⌝ }
-    ensures { λ _. ⌜ now (out .exit) ≡ appended at (node (processor 0) (fields (body format.Processor) (now (bytes .entry)))) (now (out .entry)) ⌝ }
+// At the cache that a resource or a cache names, if it names one.
+fn cache_at(out: &[u8], marks: Marks, h: CacheHandle) -> Found
+    requires { ⌜ ((h .0 ≡ 0 → ⊥) → Leading (now out) marks) ⌝ }
+    ensures { λ r. ⌜ (r .cache .0 ≡ placeIn (now (out .entry)) (h .0)) × Keeps (now (out .entry)) (h .0) marks (r .marks) ⌝ }
 {
-    let node = ProcessorNode {
-        flags: field::get_u32(bytes, 0),
-        parent: ProcessorHandle(parent),
-        acpi_processor_id: field::get_u32(bytes, 8),
-        resources: 0,
-    };
-    node.put(out, at);
+    if h.0 == 0 {
+        return Found {
+            marks,
+            processor: ProcessorHandle::NONE,
+            cache: h,
+        };
+    }
+    let i = h.0 as usize - 1;
+    let mark = reached(out, marks.toward_cache(first(), i), i);
+    Found {
+        marks: marks.at_cache(i, mark),
+        processor: ProcessorHandle::NONE,
+        cache: CacheHandle((mark.place % 4294967296) as u32),
+    }
 }
 
-fn add_resource(bytes: &[u8], out: &mut [u8], latest: Latest, cache: u32)
-    requires { ⌜ cache ≡ placeIn (now out) (refers format.Resource (now bytes)) ⌝ }
-    ensures { λ _. ⌜ now (out .exit) ≡ grown (now (out .entry)) (latest .place) (latest .count) (record { 0 = placeIn (now (out .entry)) (atByte (fields (body format.Resource) (now (bytes .entry))) 0) }) ⌝ }
+// At the record that a record of the recipe names.
+fn look_for(out: &[u8], marks: Marks, reference: Reference) -> Found
+    requires { ⌜ ((ordinalIn reference ≡ 0 → ⊥) → Leading (now out) marks) ⌝ }
+    ensures { λ r. ⌜ Placed (now (out .entry)) reference r × Keeps (now (out .entry)) (ordinalIn reference) marks (r .marks) ⌝ }
 {
-    ProcessorNode::add_cache(out, latest.place, latest.count, CacheHandle(cache));
-}
-
-fn put_cache(bytes: &[u8], out: &mut [u8], at: usize, next_level: u32)
-    requires { ⌜ «next_level» ≡ placeIn (now out) (refers format.Cache (now bytes)) ⌝ }
-    ensures { λ _. ⌜ now (out .exit) ≡ appended at (node cache (fields (body format.Cache) (now (bytes .entry)))) (now (out .entry)) ⌝ }
-{
-    let node = CacheNode {
-        flags: field::get_u8(bytes, 0) as u32,
-        next_level: CacheHandle(next_level),
-        size: field::get_u32(bytes, 5),
-        set_count: field::get_u32(bytes, 9),
-        associativity: field::get_u8(bytes, 13),
-        attributes: field::get_u8(bytes, 14),
-        line_size: field::get_u16(bytes, 15),
-        id: field::get_u32(bytes, 17),
-    };
-    node.put(out, at);
-}
-
-// ---- SRAT
-
-fn put_memory(bytes: &[u8], out: &mut [u8], at: usize)
-    ensures { λ _. ⌜ now (out .exit) ≡ appended at (node memory (fields (body format.Memory) (now (bytes .entry)))) (now (out .entry)) ⌝ }
-{
-    let node = MemoryAffinity {
-        proximity_domain: field::get_u32(bytes, 0),
-        base_address: field::get_u64(bytes, 4),
-        length: field::get_u64(bytes, 12),
-        flags: field::get_u8(bytes, 20) as u32,
-    };
-    node.put(out, at);
-}
-
-fn put_acpi(bytes: &[u8], out: &mut [u8], at: usize)
-    ensures { λ _. ⌜ now (out .exit) ≡ appended at (node acpi (fields (body format.Acpi) (now (bytes .entry)))) (now (out .entry)) ⌝ }
-{
-    let handle = Handle::new_acpi(field::get_u64(bytes, 4), field::get_u32(bytes, 12));
-    let node = GenericInitiator {
-        proximity_domain: field::get_u32(bytes, 0),
-        handle,
-        flags: field::get_u8(bytes, 16) as u32,
-    };
-    node.put(out, at);
-}
-
-fn put_pci(bytes: &[u8], out: &mut [u8], at: usize)
-    ensures { λ _. ⌜ now (out .exit) ≡ appended at (node pci (fields (body format.Pci) (now (bytes .entry)))) (now (out .entry)) ⌝ }
-{
-    let handle = Handle::new_pci(
-        field::get_u16(bytes, 4),
-        field::get_u8(bytes, 6),
-        field::get_u8(bytes, 7),
-        field::get_u8(bytes, 8),
-    );
-    let node = GenericInitiator {
-        proximity_domain: field::get_u32(bytes, 0),
-        handle,
-        flags: field::get_u8(bytes, 9) as u32,
-    };
-    node.put(out, at);
-}
-
-fn put_rintc(bytes: &[u8], out: &mut [u8], at: usize)
-    ensures { λ _. ⌜ now (out .exit) ≡ appended at (node rintc (fields (body format.Rintc) (now (bytes .entry)))) (now (out .entry)) ⌝ }
-{
-    let node = RintcAffinity {
-        acpi_processor_uid: field::get_u32(bytes, 0),
-        flags: field::get_u8(bytes, 4) as u32,
-        clock_domain: field::get_u32(bytes, 5),
-    };
-    node.put(out, at);
+    match reference {
+        Reference::Processor(h) => processor_at(out, marks, h),
+        Reference::Cache(h) => cache_at(out, marks, h),
+        Reference::Nothing => Found {
+            marks,
+            processor: ProcessorHandle::NONE,
+            cache: CacheHandle::NONE,
+        },
+    }
 }
 
 // ---- HMAT
-
-fn put_domain(bytes: &[u8], out: &mut [u8], at: usize)
-    ensures { λ _. ⌜ now (out .exit) ≡ appended at (node domain (fields (body format.Domain) (now (bytes .entry)))) (now (out .entry)) ⌝ }
-{
-    let node = MemoryProximityDomain::new(field::get_u32(bytes, 0), field::get_u32(bytes, 4));
-    node.put(out, at);
-}
-
-// A matrix of which nothing is set.
-fn put_matrix(bytes: &[u8], out: &mut [u8], at: usize)
-    ensures { λ _. ⌜ now (out .exit) ≡ appended at (unsetMatrix (fields (body format.Matrix) (now (bytes .entry)))) (now (out .entry)) ⌝ }
-{
-    let node = SystemLocality {
-        flags: field::get_u8(bytes, 0),
-        data_type: field::get_u8(bytes, 1),
-        min_transfer_size: field::get_u8(bytes, 2),
-        entry_base_unit: field::get_u64(bytes, 3),
-        initiators: field::get_u8(bytes, 11) as u32,
-        targets: field::get_u8(bytes, 12) as u32,
-    };
-    node.put(out, at);
-}
 
 // A setting of the newest matrix.
 fn set_initiator(bytes: &[u8], out: &mut [u8], s: State)
     ensures { λ _. ⌜ now (out .exit) ≡ wrote format.Initiator s (fields (body format.Initiator) (now (bytes .entry))) (now (out .entry)) ⌝ }
 {
     let latest = s.latest;
-    let idx = field::get_u8(bytes, 0) as usize;
-    let value = field::get_u32(bytes, 1);
-    SystemLocality::set_initiator_value(out, latest.place, idx, value);
+    let x = Value::from_body(bytes);
+    SystemLocality::set_initiator_value(out, latest.place, x.idx as usize, x.value);
 }
 
 fn set_target(bytes: &[u8], out: &mut [u8], s: State)
     ensures { λ _. ⌜ now (out .exit) ≡ wrote format.Target s (fields (body format.Target) (now (bytes .entry))) (now (out .entry)) ⌝ }
 {
     let latest = s.latest;
-    let idx = field::get_u8(bytes, 0) as usize;
-    let value = field::get_u32(bytes, 1);
-    SystemLocality::set_target_value(out, latest.place, latest.initiators as usize, idx, value);
+    let x = Value::from_body(bytes);
+    SystemLocality::set_target_value(
+        out,
+        latest.place,
+        latest.initiators as usize,
+        x.idx as usize,
+        x.value,
+    );
 }
 
 fn set_cell(bytes: &[u8], out: &mut [u8], s: State)
     ensures { λ _. ⌜ now (out .exit) ≡ wrote format.Cell s (fields (body format.Cell) (now (bytes .entry))) (now (out .entry)) ⌝ }
 {
     let latest = s.latest;
-    let initiators = latest.initiators as usize;
-    let targets = latest.targets as usize;
-    let i = field::get_u8(bytes, 0) as usize;
-    let t = field::get_u8(bytes, 1) as usize;
-    let value = field::get_u16(bytes, 2);
-    SystemLocality::set_entry_value(out, latest.place, initiators, targets, i, t, value);
-}
-
-fn put_side(bytes: &[u8], out: &mut [u8], at: usize)
-    ensures { λ _. ⌜ now (out .exit) ≡ appended at (node (side 0) (fields (body format.Side) (now (bytes .entry)))) (now (out .entry)) ⌝ }
-{
-    let node = MemorySideCache {
-        proximity_domain: field::get_u32(bytes, 0),
-        cache_size: field::get_u64(bytes, 4),
-        attributes: field::get_u32(bytes, 12),
-        smbios_handles: 0,
-    };
-    node.put(out, at);
-}
-
-fn add_handle(bytes: &[u8], out: &mut [u8], latest: Latest)
-    requires { ⌜ latest .count ≤ 65535 ⌝ }
-    ensures { λ _. ⌜ now (out .exit) ≡ grownSide (now (out .entry)) (latest .place) (latest .count) (atByte (fields (body format.Handle) (now (bytes .entry))) 0) ⌝ }
-{
-    let handle = field::get_u16(bytes, 0);
-    MemorySideCache::grow(out, latest.place, latest.count as u16, handle);
+    let x = Cell::from_body(bytes);
+    SystemLocality::set_entry_value(
+        out,
+        latest.place,
+        latest.initiators,
+        latest.targets,
+        x.initiator_idx as u32,
+        x.target_idx as u32,
+        x.value,
+    );
 }
 
 // ---- one record
 
-// Writes the record of a kind whose body the bytes begin with; named: the place of the record that it names.
-fn put(kind: Kind, bytes: &[u8], out: &mut [u8], s: State, named: u32)
-    requires { ⌜ Small s × (named ≡ placeIn (now out) (refers (meantKind kind) (now bytes))) ⌝ }
+// Writes the record of a kind whose body the bytes begin with; found: the record that it names.
+fn put(kind: Kind, bytes: &[u8], out: &mut [u8], s: State, found: Found)
+    requires { ⌜ Small s × Placed (now out) (referenceOf (meantKind kind) (now bytes)) found ⌝ }
     ensures { λ _. ⌜ now (out .exit) ≡ wrote (meantKind kind) s (fields (body (meantKind kind)) (now (bytes .entry))) (now (out .entry)) ⌝ }
 {
     let end = s.end;
     let latest = s.latest;
+    let place = latest.place;
     match kind {
-        Kind::Processor => put_processor(bytes, out, end, named),
-        Kind::Resource => add_resource(bytes, out, latest, named),
-        Kind::Cache => put_cache(bytes, out, end, named),
-        Kind::Memory => put_memory(bytes, out, end),
-        Kind::Acpi => put_acpi(bytes, out, end),
-        Kind::Pci => put_pci(bytes, out, end),
-        Kind::Rintc => put_rintc(bytes, out, end),
-        Kind::Domain => put_domain(bytes, out, end),
-        Kind::Matrix => put_matrix(bytes, out, end),
+        Kind::Processor => ProcessorNode::from_body(bytes)
+            .named(found.processor)
+            .put(out, end),
+        Kind::Resource => ProcessorNode::add_cache(out, place, latest.count, found.cache),
+        Kind::Cache => CacheNode::from_body(bytes).named(found.cache).put(out, end),
+        Kind::Memory => MemoryAffinity::from_body(bytes).put(out, end),
+        Kind::Acpi => GenericInitiator::from_acpi_body(bytes).put(out, end),
+        Kind::Pci => GenericInitiator::from_pci_body(bytes).put(out, end),
+        Kind::Rintc => RintcAffinity::from_body(bytes).put(out, end),
+        Kind::Domain => MemoryProximityDomain::from_body(bytes).put(out, end),
+        Kind::Matrix => SystemLocality::from_body(bytes).put(out, end),
         Kind::Initiator => set_initiator(bytes, out, s),
         Kind::Target => set_target(bytes, out, s),
         Kind::Cell => set_cell(bytes, out, s),
-        Kind::Side => put_side(bytes, out, end),
-        Kind::Handle => add_handle(bytes, out, latest),
+        Kind::Side => MemorySideCache::from_body(bytes).put(out, end),
+        Kind::Handle => MemorySideCache::grow(
+            out,
+            place,
+            latest.count as u16,
+            SmbiosHandle::from_body(bytes),
+        ),
     }
 }
 
 impl State {
     // A record is made at the end; i and t are a matrix's own.
-    fn making(self, more: usize, initiators: u8, targets: u8) -> Change
+    fn making(self, more: usize, initiators: u32, targets: u32) -> Change
         ensures { λ r. ⌜ r ≡ making self more initiators targets ⌝ }
     {
         Change {
@@ -489,11 +335,8 @@ impl State {
 fn making_matrix(bytes: &[u8], s: State) -> Change
     ensures { λ r. ⌜ r ≡ changeOf format.Matrix s (fields (body format.Matrix) (now (bytes .entry))) ⌝ }
 {
-    let initiators = field::get_u8(bytes, 11);
-    let targets = field::get_u8(bytes, 12);
-    let i = initiators as usize;
-    let t = targets as usize;
-    s.making(32 + 4 * i + 4 * t + 2 * (i * t), initiators, targets)
+    let node = SystemLocality::from_body(bytes);
+    s.making(node.len(), node.initiators, node.targets)
 }
 
 // A value or a cell of the newest matrix is set.
@@ -502,8 +345,11 @@ fn setting_initiator(bytes: &[u8], s: State) -> Change
     ensures { λ r. ⌜ r ≡ changeOf format.Initiator s (fields (body format.Initiator) (now (bytes .entry))) ⌝ }
 {
     let latest = s.latest;
-    let i = field::get_u8(bytes, 0) as usize;
-    s.setting(latest.place + 32 + 4 * i, 4)
+    let idx = Value::from_body(bytes).idx as usize;
+    s.setting(
+        SystemLocality::initiator_place(latest.place, idx),
+        Value::LEN,
+    )
 }
 
 fn setting_target(bytes: &[u8], s: State) -> Change
@@ -511,9 +357,11 @@ fn setting_target(bytes: &[u8], s: State) -> Change
     ensures { λ r. ⌜ r ≡ changeOf format.Target s (fields (body format.Target) (now (bytes .entry))) ⌝ }
 {
     let latest = s.latest;
-    let initiators = latest.initiators as usize;
-    let t = field::get_u8(bytes, 0) as usize;
-    s.setting(latest.place + 32 + 4 * initiators + 4 * t, 4)
+    let idx = Value::from_body(bytes).idx as usize;
+    s.setting(
+        SystemLocality::target_place(latest.place, latest.initiators as usize, idx),
+        Value::LEN,
+    )
 }
 
 fn setting_cell(bytes: &[u8], s: State) -> Change
@@ -521,13 +369,16 @@ fn setting_cell(bytes: &[u8], s: State) -> Change
     ensures { λ r. ⌜ r ≡ changeOf format.Cell s (fields (body format.Cell) (now (bytes .entry))) ⌝ }
 {
     let latest = s.latest;
-    let initiators = latest.initiators as usize;
-    let targets = latest.targets as usize;
-    let i = field::get_u8(bytes, 0) as usize;
-    let t = field::get_u8(bytes, 1) as usize;
+    let x = Cell::from_body(bytes);
     s.setting(
-        latest.place + 32 + 4 * initiators + 4 * targets + 2 * (i * targets + t),
-        2,
+        SystemLocality::cell_place(
+            latest.place,
+            latest.initiators,
+            latest.targets,
+            x.initiator_idx as u32,
+            x.target_idx as u32,
+        ),
+        Cell::LEN,
     )
 }
 
@@ -538,7 +389,7 @@ fn change_of(kind: Kind, bytes: &[u8], s: State) -> Change
 {
     match kind {
         Kind::Processor => s.making(ProcessorNode::LEN, 0, 0),
-        Kind::Resource => s.growing(ProcessorNode::LEN, 4),
+        Kind::Resource => s.growing(ProcessorNode::LEN, Resource::LEN),
         Kind::Cache => s.making(CacheNode::LEN, 0, 0),
         Kind::Memory => s.making(MemoryAffinity::LEN, 0, 0),
         Kind::Acpi => s.making(GenericInitiator::LEN, 0, 0),
@@ -550,7 +401,7 @@ fn change_of(kind: Kind, bytes: &[u8], s: State) -> Change
         Kind::Target => setting_target(bytes, s),
         Kind::Cell => setting_cell(bytes, s),
         Kind::Side => s.making(MemorySideCache::LEN, 0, 0),
-        Kind::Handle => s.growing(MemorySideCache::LEN, 2),
+        Kind::Handle => s.growing(MemorySideCache::LEN, SmbiosHandle::LEN),
     }
 }
 
@@ -571,11 +422,11 @@ fn summed(sum: Checksum, out: &[u8], change: Change, end: usize) -> Checksum
     requires { ⌜ (end ≤ limit) × (change .more ≤ limit) ⌝ }
     ensures { λ r. ⌜ r .value ≡ (sum .value + sumOf (part (now (out .entry)) (change .from) (change .len)) + sumOf (part (now (out .entry)) end (change .more)) + checkOf (sumOf (le 4 end)) + sumOf (le 4 (end + change .more))) % 256 ⌝ }
 {
-    let sum = sum.append(part(out, change.from, change.len));
+    let sum = sum.append(field::part(out, change.from, change.len));
     if change.more == 0 {
         return sum;
     }
-    let sum = sum.append(part(out, end, change.more));
+    let sum = sum.append(field::part(out, end, change.more));
     let sum = sum.delete(&length_bytes(end));
     sum.append(&length_bytes(end + change.more))
 }
@@ -607,9 +458,10 @@ fn step(recipe: &[u8], table: Table, out: &mut [u8], s: State) -> State
     let bytes = field::rest(recipe, start);
     let change = change_of(kind, bytes, s);
     let end = s.end + change.more;
-    let old = s.sum.delete(part(out, change.from, change.len));
-    let marks = s.marks.looked(out, kind, bytes);
-    put(kind, bytes, out, s, marks.named);
+    let old = s.sum.delete(field::part(out, change.from, change.len));
+    let found = look_for(out, s.marks, kind.refers(bytes));
+    put(kind, bytes, out, s, found);
+    let marks = found.marks;
     let sum = summed(old, out, change, s.end);
     let latest = change.latest;
     State {
@@ -628,11 +480,7 @@ fn put_header(recipe: &[u8], table: Table, out: &mut [u8])
     requires { ⌜ 28 ≤ length (now recipe) ⌝ }
     ensures { λ _. ⌜ now (out .exit) ≡ over (now (out .entry)) 0 (frontOf (meant table) (now (recipe .entry)) (front (meant table))) ⌝ }
 {
-    let bytes = [table.revision(), 0];
-    field::copy(out, 0, &table.signature());
-    field::put_u32(out, 4, table.front() as u32);
-    field::copy(out, 8, &bytes);
-    field::copy(out, 10, part(recipe, 2, 26));
+    TableHeader::from_body(table, field::rest(recipe, 1)).put(out, 0);
     header::put_front(table, out);
 }
 
@@ -643,7 +491,7 @@ fn start(recipe: &[u8], table: Table, out: &mut [u8]) -> State
 {
     put_header(recipe, table, out);
     let end = table.front();
-    let sum = Checksum::default().append(part(out, 0, end));
+    let sum = Checksum::default().append(field::part(out, 0, end));
     State {
         at: recipe::HEAD_LEN,
         end,
@@ -654,12 +502,7 @@ fn start(recipe: &[u8], table: Table, out: &mut [u8]) -> State
             targets: 0,
         },
         sum,
-        marks: Marks {
-            parent: Mark::first(),
-            cache: Mark::first(),
-            back: Mark::first(),
-            named: 0,
-        },
+        marks: Marks::new(first()),
     }
 }
 
@@ -668,7 +511,7 @@ fn put_cell(
     recipe: &[u8],
     at: usize,
     cells: usize,
-    targets: usize,
+    targets: u32,
     out: &mut [u8],
     sum: Checksum,
 ) -> Checksum
@@ -676,10 +519,13 @@ fn put_cell(
     ensures { λ _. ⌜ now (out .exit) ≡ over (now (out .entry)) (cells + 2 * (atByte (now (recipe .entry)) (at + 1) * targets + atByte (now (recipe .entry)) (at + 2))) (le 2 (value (part (now (recipe .entry)) (at + 3) 2))) ⌝ }
     ensures { λ r. ⌜ r .value ≡ (sum .value + checkOf (sumOf (part (now (out .entry)) (cells + 2 * (atByte (now (recipe .entry)) (at + 1) * targets + atByte (now (recipe .entry)) (at + 2))) 2)) + sumOf (le 2 (value (part (now (recipe .entry)) (at + 3) 2)))) % 256 ⌝ }
 {
-    let i = recipe[at + 1] as usize;
-    let t = recipe[at + 2] as usize;
-    let value = field::get_u16(recipe, at + 3);
-    replace(out, cells + 2 * (i * targets + t), value, sum)
+    let from = at + 1;
+    let end = from + Cell::BODY;
+    let cell = Cell::from_body(&recipe[from..end]);
+    let i = cell.initiator_idx as u32;
+    let t = cell.target_idx as u32;
+    let place = SystemLocality::entry_place(cells, targets, i, t);
+    replace(out, place, cell.value, sum)
 }
 
 // Writes the cells that follow, one record after the other, as step does; no other table has any.
@@ -691,14 +537,18 @@ fn put_cells(recipe: &[u8], table: Table, out: &mut [u8], s: State) -> State
         return s;
     };
     let latest = s.latest;
-    let targets = latest.targets as usize;
-    let cells = latest.place + 32 + 4 * latest.initiators as usize + 4 * targets;
+    let targets = latest.targets;
+    let cells = SystemLocality::target_place(
+        latest.place,
+        latest.initiators as usize,
+        targets as usize,
+    );
     let end = s.end;
     let marks = s.marks;
     let mut at = s.at;
     let mut sum = s.sum;
     while at < recipe.len() {
-        if recipe[at] != Kind::CELL {
+        if recipe[at] != Cell::KIND {
             return State {
                 at,
                 end,
@@ -708,7 +558,7 @@ fn put_cells(recipe: &[u8], table: Table, out: &mut [u8], s: State) -> State
             };
         }
         sum = put_cell(recipe, at, cells, targets, out, sum);
-        at = at + 5;
+        at = at + 1 + Cell::BODY;
     }
     State {
         at,
@@ -740,8 +590,8 @@ fn write(recipe: &[u8], table: Table, out: &mut [u8])
     let first = start(recipe, table, out);
     let last = put_records(recipe, table, out, first);
     let sum = last.sum.value();
-    field::put_u32(out, 4, last.end as u32);
-    field::put_u8(out, 9, sum);
+    TableHeader::set_length(out, last.end as u32);
+    TableHeader::set_checksum(out, sum);
 }
 
 // Builds the table of a recipe; where it is refused, the buffer stays as it was.

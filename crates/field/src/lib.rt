@@ -1,7 +1,7 @@
 // Numbers and byte strings, laid into a buffer and read out of one, the lowest byte first.
 // Any place is allowed: what would reach past the end is left out, and what is read there counts as 0.
 ghost use mathlib.Core.Path.{_≡_};
-ghost use Prim.Native.Nat.{_+_, _-_, _%_, _≤_, _<_, min};
+ghost use Prim.Native.Nat.{_+_, _-_, _%_, _^_, _≤_, _<_, min};
 ghost use lib.ListN.{length, drop, replicate};
 ghost use Rattle.format.specs.Bytes.{le, value, join, part, over, sum};
 
@@ -140,7 +140,7 @@ pub fn put_u64(out: &mut [u8], at: usize, v: u64)
 }
 
 // Writes numbers one behind the other, each at its width.
-pub fn put_all(out: &mut [u8], at: usize, ws: &[usize], vs: &[u64])
+fn put_each(out: &mut [u8], at: usize, ws: &[usize], vs: &[u64])
     ensures { λ _. ⌜ now (out .exit) ≡ over (now (out .entry)) at (join (now (ws .entry)) (now (vs .entry))) ⌝ }
 {
     let n = fitting(ws.len(), 0, vs.len());
@@ -152,6 +152,41 @@ pub fn put_all(out: &mut [u8], at: usize, ws: &[usize], vs: &[u64])
     }
 }
 
+// How many bytes the widths are, as far as a usize reaches.
+fn total(ws: &[usize]) -> usize
+    ensures { λ r. ⌜ r ≡ min (sum (now (ws .entry))) (2 ^ 64 - 1) ⌝ }
+{
+    let mut n: usize = 0;
+    let mut i = 0;
+    while i < ws.len() {
+        let w = ws[i];
+        if usize::MAX - n < w {
+            return usize::MAX;
+        }
+        n += w;
+        i += 1;
+    }
+    n
+}
+
+// The same. Where all of them have room, they go into a window of their own, of which the compiler knows the length and tests no bound for
+// each; where not even the first has room, nothing is done: a walk that measures is spared them.
+pub fn put_all(out: &mut [u8], at: usize, ws: &[usize], vs: &[u64])
+    ensures { λ _. ⌜ now (out .exit) ≡ over (now (out .entry)) at (join (now (ws .entry)) (now (vs .entry))) ⌝ }
+{
+    let len = out.len();
+    if len <= at {
+        return;
+    }
+    let n = total(ws);
+    if len - at < n {
+        put_each(out, at, ws, vs);
+        return;
+    }
+    let end = at + n;
+    put_each(&mut out[at..end], 0, ws, vs);
+}
+
 // The first eight bytes from a place on, with zeros where there are none.
 fn padded(s: &[u8], at: usize) -> [u8; 8]
     ensures { λ r. ⌜ r ≡ over (replicate 8 0) 0 (drop at (now (s .entry))) ⌝ }
@@ -161,6 +196,21 @@ fn padded(s: &[u8], at: usize) -> [u8; 8]
         copy(&mut bytes, 0, &s[at..]);
     }
     bytes
+}
+
+// At most n bytes from a place on.
+pub fn part(s: &[u8], at: usize, n: usize) -> &[u8]
+    ensures { λ r. ⌜ now r ≡ part (now (s .entry)) at n ⌝ }
+{
+    let len = s.len();
+    if len <= at {
+        return &s[len..];
+    }
+    if len - at <= n {
+        return &s[at..];
+    }
+    let end = at + n;
+    &s[at..end]
 }
 
 // What stands from a place on.

@@ -3,7 +3,7 @@
 ghost use mathlib.Core.Path.{_≡_};
 ghost use Prim.Native.Nat.{_+_, _≤_};
 ghost use lib.ListN.{length, take, drop};
-ghost use Rattle.format.specs.Bytes.{given, same, unless};
+ghost use Rattle.format.specs.Bytes.{value, part, given, same, unless};
 ghost use Rattle.format.specs.Layout.{fixedOk};
 ghost use Rattle.format.specs.Table.{tail, least};
 ghost use Rattle.format.specs.Read.{signed, own, headFault, judgeHead, typeIn, sizeIn, framed};
@@ -192,19 +192,32 @@ fn least(t: Table) -> usize
     }
 }
 
+// The type in a frame of PPTT or SRAT, and in one of HMAT.
+pub fn short_type(s: &[u8]) -> u8
+    ensures { λ r. ⌜ r ≡ value (part (now (s .entry)) 0 1) ⌝ }
+{
+    field::get_u8(s, 0)
+}
+
+pub fn long_type(s: &[u8]) -> u16
+    ensures { λ r. ⌜ r ≡ value (part (now (s .entry)) 0 2) ⌝ }
+{
+    field::get_u16(s, 0)
+}
+
 // The type in a frame.
 pub fn type_in(t: Table, s: &[u8]) -> u16
     ensures { λ r. ⌜ r ≡ typeIn (meant t) (now (s .entry)) ⌝ }
 {
     match t {
-        Table::Pptt => field::get_u8(s, 0) as u16,
-        Table::Srat => field::get_u8(s, 0) as u16,
-        Table::Hmat => field::get_u16(s, 0),
+        Table::Pptt => short_type(s) as u16,
+        Table::Srat => short_type(s) as u16,
+        Table::Hmat => long_type(s),
     }
 }
 
 // The length in a frame.
-pub fn size_in(t: Table, s: &[u8]) -> usize
+fn size_in(t: Table, s: &[u8]) -> usize
     ensures { λ r. ⌜ r ≡ sizeIn (meant t) (now (s .entry)) ⌝ }
 {
     match t {

@@ -2,9 +2,9 @@
 use mathlib.Core.Path.{_≡_}
 use Prim.Native.Nat.{ℕ}
 use mathlib.Core.List.{List, _∷_, _++_}
-use lib.ListN.{length}
-use Rattle.format.specs.Bytes.{le}
-use Rattle.format.specs.Table.{pptt, srat, hmat, sign, revision}
+use lib.ListN.{length, drop, replicate}
+use Rattle.format.specs.Bytes.{le, value, part, over}
+use Rattle.format.specs.Table.{pptt, srat, hmat, sign, revision, front}
 use Rattle.format.specs.Table as format
 use Rattle.header.specs.declared.Table.{Table}
 use Rattle.header.specs.declared.Table.the-variants.{Pptt, Srat, Hmat}
@@ -53,6 +53,16 @@ headerOf t n oem oemTable oemRevision creator creatorRevision =
       «creator_revision» = creatorRevision;
     }
 
+-- the first n bytes, with zeros where there are none
+abbrev pub padded : ℕ → List ℕ → List ℕ
+padded n bs = over (replicate n 0) 0 bs
+
+-- the header of a table without records, by the body of a recipe's head: table 1, OEM ID 6, OEM table ID 8, OEM revision 4, creator ID 4, creator revision 4
+abbrev pub headFrom : Table → List ℕ → TableHeader
+headFrom t bs =
+    headerOf t (front (meant t)) (padded 6 (drop 1 bs)) (padded 8 (drop 7 bs)) (value (part bs 15 4)) (padded 4 (drop 19 bs)) (padded 4 (drop 23 bs))
+
+-- the same header with a checksum
 abbrev pub withChecksum : TableHeader → ℕ → TableHeader
 withChecksum h c =
     record {

@@ -2,12 +2,14 @@
 ghost use mathlib.Core.Path.{_≡_};
 ghost use Prim.Native.Nat.{ℕ, _+_, _%_, _^_, _<_};
 ghost use lib.ListN.{length};
-ghost use Rattle.format.specs.Bytes.{sum, over};
+ghost use Rattle.format.specs.Bytes.{le, value, part, sum, over};
 ghost use Rattle.format.specs.Layout.{lay};
-ghost use Rattle.format.specs.Table.{sign, revision, tail, told, front, limit};
+ghost use Rattle.format.specs.Table.{code, sign, revision, tail, told, front, limit};
 ghost use Rattle.format.specs.Build.{checkOf};
+ghost use Rattle.format.specs.Normal.{headCall};
+ghost use Rattle.format.specs.Out.{headIn};
 ghost use Rattle.header.specs.declared.TableHeader.{TableHeader};
-ghost use Rattle.header.specs.Header.{meant, identity, headerBytes, Sized, headerOf, withChecksum};
+ghost use Rattle.header.specs.Header.{meant, identity, headerBytes, Sized, headerOf, headFrom, withChecksum};
 
 // No table is longer.
 pub const LIMIT: usize = 1048576;
@@ -96,6 +98,23 @@ impl Table {
 
     pub const HMAT_REVISION: u8 = 1;
 
+    // The numbers in a head.
+    pub const PPTT_CODE: u8 = 0;
+
+    pub const SRAT_CODE: u8 = 1;
+
+    pub const HMAT_CODE: u8 = 2;
+
+    pub fn code(self) -> u8
+        ensures { λ r. ⌜ r ≡ code (meant self) ⌝ }
+    {
+        match self {
+            Table::Pptt => Self::PPTT_CODE,
+            Table::Srat => Self::SRAT_CODE,
+            Table::Hmat => Self::HMAT_CODE,
+        }
+    }
+
     pub fn signature(self) -> [u8; 4]
         ensures { λ r. ⌜ r ≡ sign (meant self) ⌝ }
     {
@@ -142,7 +161,75 @@ pub struct TableHeader {
 }
 
 impl TableHeader {
+    // The kind byte of a recipe's head, and the length of the body behind it: table, OEM ID, OEM table ID, OEM revision, creator ID, creator revision.
+    pub const KIND: u8 = 1;
+
+    pub const BODY: usize = 27;
+
     pub const LEN: usize = 36;
+
+    // Where length, revision, checksum and what a head gives stand.
+    const LENGTH_AT: usize = 4;
+
+    const REVISION_AT: usize = 8;
+
+    const CHECKSUM_AT: usize = 9;
+
+    const IDENTITY_AT: usize = 10;
+
+    // The header of a table without records, by the body of a recipe's head.
+    pub fn from_body(table: Table, bytes: &[u8]) -> Self
+        ensures { λ r. ⌜ r ≡ headFrom table (now (bytes .entry)) ⌝ }
+    {
+        let mut oem_id = [0u8; 6];
+        let mut oem_table_id = [0u8; 8];
+        let mut creator_id = [0u8; 4];
+        let mut creator_revision = [0u8; 4];
+        field::copy(&mut oem_id, 0, field::rest(bytes, 1));
+        field::copy(&mut oem_table_id, 0, field::rest(bytes, 7));
+        field::copy(&mut creator_id, 0, field::rest(bytes, 19));
+        field::copy(&mut creator_revision, 0, field::rest(bytes, 23));
+        Self::new(
+            table,
+            table.front() as u32,
+            oem_id,
+            oem_table_id,
+            field::get_u32(bytes, 15),
+            creator_id,
+            creator_revision,
+        )
+    }
+
+    // The revision of a table.
+    pub fn revision_in(table: &[u8]) -> u8
+        ensures { λ r. ⌜ r ≡ value (part (now (table .entry)) 8 1) ⌝ }
+    {
+        field::get_u8(table, Self::REVISION_AT)
+    }
+
+    // Sets the length in a header.
+    pub fn set_length(out: &mut [u8], length: u32)
+        ensures { λ _. ⌜ now (out .exit) ≡ over (now (out .entry)) 4 (le 4 length) ⌝ }
+    {
+        field::put_u32(out, Self::LENGTH_AT, length);
+    }
+
+    // Sets the checksum in a header.
+    pub fn set_checksum(out: &mut [u8], checksum: u8)
+        ensures { λ _. ⌜ now (out .exit) ≡ over (now (out .entry)) 9 (le 1 checksum) ⌝ }
+    {
+        field::put_u8(out, Self::CHECKSUM_AT, checksum);
+    }
+
+    // Writes kind byte and body of the head of a recipe for a table of these bytes.
+    pub fn put_body(table: Table, bytes: &[u8], out: &mut [u8])
+        ensures { λ _. ⌜ now (out .exit) ≡ over (now (out .entry)) 0 (headCall (headIn (meant table) (now (bytes .entry)))) ⌝ }
+    {
+        field::put_u8(out, 0, Self::KIND);
+        field::put_u8(out, 1, table.code());
+        let n = Self::LEN - Self::IDENTITY_AT;
+        field::copy(out, 2, field::part(bytes, Self::IDENTITY_AT, n));
+    }
 
     pub fn len() -> usize
         ensures { λ r. ⌜ ((h : TableHeader) → Sized h → r ≡ length (headerBytes h)) ⌝ }

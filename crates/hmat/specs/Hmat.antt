@@ -53,6 +53,10 @@ matrixForm m = matrix (m .initiators) (m .targets)
 abbrev pub matrixFields : SystemLocality → List ℕ
 matrixFields m = m .flags ∷ m .«data_type» ∷ m .«min_transfer_size» ∷ m .«entry_base_unit» ∷ []
 
+-- the fields of a recipe's record
+abbrev pub matrixCall : SystemLocality → List ℕ
+matrixCall m = matrixFields m ++ (m .initiators ∷ m .targets ∷ [])
+
 abbrev pub matrixHead : SystemLocality → Node
 matrixHead m = node (matrixForm m) (matrixFields m)
 

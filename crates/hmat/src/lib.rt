@@ -1,15 +1,25 @@
-// The records of HMAT, which describes how memory is reached: domains, matrices of localities, memory-side caches.
+// The nodes of HMAT, which describes how memory is reached: domains, matrices of localities with their settings, memory-side caches with
+// their handles. Each has two writings: a record of the table (a setting or a handle a part of one), and a kind byte with a body of a recipe.
+// What an HMAT's record is, by constants, places and ranges, stands here alone.
 // What a record lists (values, cells, handles) lies in the table alone: a node holds the fields before it and the counts.
 ghost use mathlib.Core.Path.{_≡_};
-ghost use Prim.Native.Nat.{_+_, _-_, _*_, _^_, min};
-ghost use lib.ListN.{drop};
-ghost use Rattle.format.specs.Bytes.{le, value, part, over};
-ghost use Rattle.format.specs.Layout.{asIs};
-ghost use Rattle.format.specs.Form.{domain, size};
-ghost use Rattle.format.specs.Node.{bytes, nodeAt};
-ghost use Rattle.format.specs.Row.{matrices, sides, formIn};
+ghost use mathlib.Core.List.{_∷_, []};
+ghost use Prim.Native.Nat.{_+_, _-_, _*_, _/_, _^_, min};
+ghost use lib.Dec.{eqb, ltb};
+ghost use lib.ListN.{length, drop};
+ghost use Rattle.format.specs.Bytes.{le, value, part, over, bits};
+ghost use Rattle.format.specs.Layout.{asIs, fields, fixedOk};
+ghost use Rattle.format.specs.Form.{domain, side, size, layout, matrixFlags, sideAttributes};
+ghost use Rattle.format.specs.Node.{node, bytes, nodeAt};
+ghost use Rattle.format.specs.Kind.{Domain, Matrix, Initiator, Side, body};
+ghost use Rattle.format.specs.Kind as format;
+ghost use Rattle.format.specs.Normal.{call};
+ghost use Rattle.format.specs.Field.{callsOfNode, badIn, badField};
+ghost use Rattle.format.specs.Row.{matrices, sides, column, formIn};
+ghost use Rattle.format.specs.Read.{sound};
 ghost use Rattle.hmat.specs.Numbers.{dataTypeNumber, transferNumber, localityNumber, levelNumber, associativityNumber, policyNumber};
-ghost use Rattle.hmat.specs.Hmat.{domainOf, domainNode, matrixOf, matrixWith, matrixForm, matrixHead, matrixFront, matrixUnset, matrixNode, sideOf, sideForm, sideHead, sideFront, trimmed, grown};
+ghost use Rattle.hmat.specs.Hmat.{domainOf, domainNode, matrixOf, matrixWith, matrixForm, matrixHead, matrixFront, matrixUnset, matrixNode, sideOf, sideForm, sideFields, sideHead, sideFront, trimmed, grown, matrixCall};
+ghost use Rattle.hmat.specs.Settings.{valueFields, valueCall, cellFields, goodCell, handleFields};
 
 // No slice is longer, so nothing stands at this place.
 const NOWHERE: usize = 18446744073709551615;
@@ -35,11 +45,19 @@ pub struct MemoryProximityDomain {
 }
 
 impl MemoryProximityDomain {
+    // The kind byte, and the length of the body behind it.
+    pub const KIND: u8 = 48;
+
+    pub const BODY: usize = 8;
+
     pub const TYPE: u16 = 0;
 
     pub const LEN: usize = 40;
 
     pub const DOMAIN_VALID: u16 = 1;
+
+    // Kind, initiator, memory.
+    const BODY_WIDTHS: [usize; 3] = [1, 4, 4];
 
     // Type, 2 zero, length, flags, 2 zero, initiator, memory, 20 zero.
     const WIDTHS: [usize; 8] = [2, 2, 4, 2, 2, 4, 4, 20];
@@ -85,6 +103,65 @@ impl MemoryProximityDomain {
             proximity_domain_initiator: field::get_u32(s, 12),
             proximity_domain_memory: field::get_u32(s, 16),
         }
+    }
+
+    // Twenty zeros behind the memory.
+    fn is_zero(row: &[u8]) -> bool
+        ensures { λ r. ⌜ r ≡ eqb (value (part (now (row .entry)) 20 20)) 0 ⌝ }
+    {
+        if field::get_u32(row, 20) != 0 {
+            return false;
+        }
+        if field::get_u64(row, 24) != 0 {
+            return false;
+        }
+        field::get_u64(row, 32) == 0
+    }
+
+    // Zeros and fixed values of a record; no field has a range.
+    pub fn is_fixed(row: &[u8]) -> bool
+        ensures { λ r. ⌜ r ≡ fixedOk (layout domain) (now (row .entry)) ⌝ }
+    {
+        if field::get_u16(row, 0) != Self::TYPE {
+            return false;
+        }
+        if field::get_u16(row, 2) != 0 {
+            return false;
+        }
+        if field::get_u32(row, 4) as usize != Self::LEN {
+            return false;
+        }
+        if field::get_u16(row, 8) != Self::DOMAIN_VALID {
+            return false;
+        }
+        if field::get_u16(row, 10) != 0 {
+            return false;
+        }
+        Self::is_zero(row)
+    }
+
+    // The node of a body.
+    pub fn from_body(bytes: &[u8]) -> Self
+        ensures { λ r. ⌜ domainNode r ≡ node domain (fields (body Domain) (now (bytes .entry))) ⌝ }
+    {
+        Self {
+            proximity_domain_initiator: field::get_u32(bytes, 0),
+            proximity_domain_memory: field::get_u32(bytes, 4),
+        }
+    }
+
+    // Writes kind byte and body; how many bytes that is.
+    pub fn put_body(self, out: &mut [u8], at: usize) -> usize
+        ensures { λ _. ⌜ now (out .exit) ≡ over (now (out .entry)) at (callsOfNode (domainNode self)) ⌝ }
+        ensures { λ r. ⌜ r ≡ length (callsOfNode (domainNode self)) ⌝ }
+    {
+        let vs = [
+            Self::KIND as u64,
+            self.proximity_domain_initiator as u64,
+            self.proximity_domain_memory as u64,
+        ];
+        field::put_all(out, at, &Self::BODY_WIDTHS, &vs);
+        1 + Self::BODY
     }
 }
 
@@ -184,10 +261,18 @@ pub struct SystemLocality {
 }
 
 impl SystemLocality {
+    // The kind byte, and the length of the body behind it.
+    pub const KIND: u8 = 49;
+
+    pub const BODY: usize = 13;
+
     pub const TYPE: u16 = 1;
 
     // without values and cells
     pub const LEN: usize = 32;
+
+    // the most initiators, and the most targets
+    const MAX_COUNT: u32 = 255;
 
     pub const MINIMUM_TRANSFER_SIZE_REQD: u8 = 0x10;
 
@@ -195,6 +280,21 @@ impl SystemLocality {
 
     // what a cell holds that is not set
     pub const UNREACHABLE_DOMAIN: u16 = 0xffff;
+
+    // the highest data type and transfer size
+    const MAX_DATA_TYPE: u8 = 5;
+
+    const MAX_TRANSFER_SIZE: u8 = 11;
+
+    // Where the fields that have a range stand in a body.
+    const FLAGS_AT: usize = 0;
+
+    const DATA_TYPE_AT: usize = 1;
+
+    const TRANSFER_SIZE_AT: usize = 2;
+
+    // Kind, flags, data type, transfer size, unit, I, T.
+    const BODY_WIDTHS: [usize; 7] = [1, 1, 1, 1, 8, 1, 1];
 
     // Type, 2 zero, length, flags, data type, transfer size, 0, I, T, 4 zero, unit.
     const WIDTHS: [usize; 11] = [2, 2, 4, 1, 1, 1, 1, 4, 4, 4, 8];
@@ -299,30 +399,35 @@ impl SystemLocality {
         self.put_unset(out, values);
     }
 
-    fn initiator_place(at: usize, idx: usize) -> usize
+    // The place of a value or of a cell, of the matrix whose record starts at a place.
+    pub fn initiator_place(at: usize, idx: usize) -> usize
         ensures { λ r. ⌜ r ≡ min (at + 32 + 4 * idx) (2 ^ 64 - 1) ⌝ }
     {
-        behind(behind(at, Self::LEN, 1), 4, idx)
+        behind(behind(at, Self::LEN, 1), Value::LEN, idx)
     }
 
-    fn target_place(at: usize, initiators: usize, idx: usize) -> usize
+    pub fn target_place(at: usize, initiators: usize, idx: usize) -> usize
         ensures { λ r. ⌜ r ≡ min (at + 32 + 4 * initiators + 4 * idx) (2 ^ 64 - 1) ⌝ }
     {
-        behind(Self::initiator_place(at, initiators), 4, idx)
+        behind(Self::initiator_place(at, initiators), Value::LEN, idx)
     }
 
-    // Cell (i, t) is entry i times T plus t.
-    fn cell_place(
-        at: usize,
-        initiators: usize,
-        targets: usize,
-        initiator_idx: usize,
-        target_idx: usize,
-    ) -> usize
-        ensures { λ r. ⌜ r ≡ min (at + 32 + 4 * initiators + 4 * targets + 2 * («initiator_idx» * targets + «target_idx»)) (2 ^ 64 - 1) ⌝ }
+    pub fn cell_place(at: usize, initiators: u32, targets: u32, i: u32, t: u32) -> usize
+        ensures { λ r. ⌜ r ≡ min (at + 32 + 4 * initiators + 4 * targets + 2 * (i * targets + t)) (2 ^ 64 - 1) ⌝ }
     {
-        let entry = behind(target_idx, initiator_idx, targets);
-        behind(Self::target_place(at, initiators, targets), 2, entry)
+        Self::entry_place(
+            Self::target_place(at, initiators as usize, targets as usize),
+            targets,
+            i,
+            t,
+        )
+    }
+
+    // The same, of the matrix whose first cell starts at a place: cell (i, t) is entry i times T plus t.
+    pub fn entry_place(cells: usize, targets: u32, i: u32, t: u32) -> usize
+        ensures { λ r. ⌜ r ≡ min (cells + 2 * (i * targets + t)) (2 ^ 64 - 1) ⌝ }
+    {
+        behind(cells, Cell::LEN, i as usize * targets as usize + t as usize)
     }
 
     // Sets a value of the matrix at a place.
@@ -343,10 +448,10 @@ impl SystemLocality {
     pub fn set_entry_value(
         out: &mut [u8],
         at: usize,
-        initiators: usize,
-        targets: usize,
-        initiator_idx: usize,
-        target_idx: usize,
+        initiators: u32,
+        targets: u32,
+        initiator_idx: u32,
+        target_idx: u32,
         value: u16,
     )
         ensures { λ _. ⌜ now (out .exit) ≡ over (now (out .entry)) (at + 32 + 4 * initiators + 4 * targets + 2 * («initiator_idx» * targets + «target_idx»)) (le 2 value) ⌝ }
@@ -386,15 +491,270 @@ impl SystemLocality {
     pub fn entry_value(
         table: &[u8],
         at: usize,
-        initiators: usize,
-        targets: usize,
-        initiator_idx: usize,
-        target_idx: usize,
+        initiators: u32,
+        targets: u32,
+        initiator_idx: u32,
+        target_idx: u32,
     ) -> u16
         ensures { λ r. ⌜ r ≡ value (part (now (table .entry)) (at + 32 + 4 * initiators + 4 * targets + 2 * («initiator_idx» * targets + «target_idx»)) 2) ⌝ }
     {
         let place = Self::cell_place(at, initiators, targets, initiator_idx, target_idx);
         field::get_u16(table, place)
+    }
+
+    // The Length column of the row: more initiators or targets than a recipe can count make a record unknown, not faulty.
+    pub fn fits(row: &[u8]) -> bool
+        ensures { λ r. ⌜ r ≡ column matrices (now (row .entry)) ⌝ }
+    {
+        if row.len() < Self::LEN {
+            return false;
+        }
+        if Self::MAX_COUNT < field::get_u32(row, 12) {
+            return false;
+        }
+        field::get_u32(row, 16) <= Self::MAX_COUNT
+    }
+
+    // Zeros, fixed values, counts and length of a record.
+    pub fn is_fixed(row: &[u8]) -> bool
+        ensures { λ r. ⌜ r ≡ fixedOk (layout (formIn matrices (now (row .entry)))) (now (row .entry)) ⌝ }
+    {
+        if field::get_u16(row, 0) != Self::TYPE {
+            return false;
+        }
+        if field::get_u16(row, 2) != 0 {
+            return false;
+        }
+        if field::get_u32(row, 4) as usize != Self::get(row, 0).len() {
+            return false;
+        }
+        if field::get_u8(row, 11) != 0 {
+            return false;
+        }
+        field::get_u32(row, 20) == 0
+    }
+
+    // The node of a body, of which nothing is set.
+    pub fn from_body(bytes: &[u8]) -> Self
+        ensures { λ r. ⌜ matrixCall r ≡ fields (body Matrix) (now (bytes .entry)) ⌝ }
+    {
+        Self {
+            flags: field::get_u8(bytes, Self::FLAGS_AT),
+            data_type: field::get_u8(bytes, Self::DATA_TYPE_AT),
+            min_transfer_size: field::get_u8(bytes, Self::TRANSFER_SIZE_AT),
+            entry_base_unit: field::get_u64(bytes, 3),
+            initiators: field::get_u8(bytes, 11) as u32,
+            targets: field::get_u8(bytes, 12) as u32,
+        }
+    }
+
+    // Writes kind byte and body, without settings; how many bytes that is.
+    pub fn put_body(self, out: &mut [u8], at: usize) -> usize
+        ensures { λ _. ⌜ now (out .exit) ≡ over (now (out .entry)) at (call Matrix (matrixCall self)) ⌝ }
+        ensures { λ r. ⌜ r ≡ length (call Matrix (matrixCall self)) ⌝ }
+    {
+        let vs = [
+            Self::KIND as u64,
+            self.flags as u64,
+            self.data_type as u64,
+            self.min_transfer_size as u64,
+            self.entry_base_unit,
+            self.initiators as u64,
+            self.targets as u64,
+        ];
+        field::put_all(out, at, &Self::BODY_WIDTHS, &vs);
+        1 + Self::BODY
+    }
+
+    // What the lowest two bits of the flags say: which level the matrix is about.
+    pub fn locality(self) -> u8
+        ensures { λ r. ⌜ r ≡ bits (self .flags) 0 2 ⌝ }
+    {
+        self.flags % 4
+    }
+
+    // Bits 0 and 1, 4 and 5, the rest 0.
+    fn is_good_flags(v: u8) -> bool
+        ensures { λ r. ⌜ r ≡ matrixFlags v ⌝ }
+    {
+        if v / 4 % 4 != 0 {
+            return false;
+        }
+        v < 64
+    }
+
+    // The place of the first field outside its range, counted from the kind byte; 0 for none.
+    pub fn bad_field(self) -> usize
+        ensures { λ r. ⌜ r ≡ badField (matrixHead self) ⌝ }
+    {
+        if !Self::is_good_flags(self.flags) {
+            return 1 + Self::FLAGS_AT;
+        }
+        if Self::MAX_DATA_TYPE < self.data_type {
+            return 1 + Self::DATA_TYPE_AT;
+        }
+        if Self::MAX_TRANSFER_SIZE < self.min_transfer_size {
+            return 1 + Self::TRANSFER_SIZE_AT;
+        }
+        0
+    }
+
+    // Whether a record is fixed where it has to be, and no field outside its range.
+    pub fn is_sound(row: &[u8]) -> bool
+        ensures { λ r. ⌜ r ≡ sound (formIn matrices (now (row .entry))) (now (row .entry)) ⌝ }
+    {
+        if !Self::is_fixed(row) {
+            return false;
+        }
+        Self::get(row, 0).bad_field() == 0
+    }
+}
+
+// ---- settings of a matrix
+
+// The value of an initiator or of a target.
+pub struct Value {
+    pub idx: u8,
+    pub value: u32,
+}
+
+impl Value {
+    // The kind bytes by side, and the length of the body behind them.
+    pub const INITIATOR_KIND: u8 = 50;
+
+    pub const TARGET_KIND: u8 = 51;
+
+    pub const BODY: usize = 5;
+
+    // in a matrix's record
+    pub const LEN: usize = 4;
+
+    // what is not set
+    pub const UNSET: u32 = 0;
+
+    // Kind, index, number.
+    const BODY_WIDTHS: [usize; 3] = [1, 1, 4];
+
+    // The value of a body.
+    pub fn from_body(bytes: &[u8]) -> Self
+        ensures { λ r. ⌜ valueFields r ≡ fields (body Initiator) (now (bytes .entry)) ⌝ }
+    {
+        Self {
+            idx: field::get_u8(bytes, 0),
+            value: field::get_u32(bytes, 1),
+        }
+    }
+
+    // Writes a kind byte and the body; how many bytes that is.
+    pub fn put_body(self, kind: u8, out: &mut [u8], at: usize) -> usize
+        ensures { λ _. ⌜ now (out .exit) ≡ over (now (out .entry)) at (valueCall kind self) ⌝ }
+        ensures { λ r. ⌜ r ≡ length (valueCall kind self) ⌝ }
+    {
+        let vs = [kind as u64, self.idx as u64, self.value as u64];
+        field::put_all(out, at, &Self::BODY_WIDTHS, &vs);
+        1 + Self::BODY
+    }
+
+    // The place of the index where it is not below the count, from the kind byte; 0 where it is.
+    pub fn bad_field(self, count: u32) -> usize
+        ensures { λ r. ⌜ r ≡ badIn Initiator (ltb (self .idx) count ∷ []) ⌝ }
+    {
+        if count <= self.idx as u32 {
+            return 1;
+        }
+        0
+    }
+}
+
+// A cell, of an initiator and a target.
+pub struct Cell {
+    pub initiator_idx: u8,
+    pub target_idx: u8,
+    pub value: u16,
+}
+
+impl Cell {
+    // The kind byte, and the length of the body behind it.
+    pub const KIND: u8 = 52;
+
+    pub const BODY: usize = 4;
+
+    // in a matrix's record
+    pub const LEN: usize = 2;
+
+    // Where the target's index stands in a body.
+    const TARGET_AT: usize = 1;
+
+    // Kind, two indices, number.
+    const BODY_WIDTHS: [usize; 4] = [1, 1, 1, 2];
+
+    // The cell of a body.
+    pub fn from_body(bytes: &[u8]) -> Self
+        ensures { λ r. ⌜ cellFields r ≡ fields (body format.Cell) (now (bytes .entry)) ⌝ }
+    {
+        Self {
+            initiator_idx: field::get_u8(bytes, 0),
+            target_idx: field::get_u8(bytes, Self::TARGET_AT),
+            value: field::get_u16(bytes, 2),
+        }
+    }
+
+    // Writes kind byte and body; how many bytes that is. Byte by byte where all has room: a matrix has up to 65,025 of them.
+    pub fn put_body(self, out: &mut [u8], at: usize) -> usize
+        ensures { λ _. ⌜ now (out .exit) ≡ over (now (out .entry)) at (call format.Cell (cellFields self)) ⌝ }
+        ensures { λ r. ⌜ r ≡ length (call format.Cell (cellFields self)) ⌝ }
+    {
+        let len = out.len();
+        if len <= at {
+            return 1 + Self::BODY;
+        }
+        if len - at < 1 + Self::BODY {
+            let vs = [
+                Self::KIND as u64,
+                self.initiator_idx as u64,
+                self.target_idx as u64,
+                self.value as u64,
+            ];
+            field::put_all(out, at, &Self::BODY_WIDTHS, &vs);
+            return 1 + Self::BODY;
+        }
+        out[at] = Self::KIND;
+        out[at + 1] = self.initiator_idx;
+        out[at + 2] = self.target_idx;
+        out[at + 3] = (self.value % 256) as u8;
+        out[at + 4] = (self.value / 256) as u8;
+        1 + Self::BODY
+    }
+
+    // The place of the first index that is not below its count, from the kind byte; 0 where both are.
+    pub fn bad_field(self, initiators: u32, targets: u32) -> usize
+        ensures { λ r. ⌜ r ≡ badIn format.Cell (ltb (self .«initiator_idx») initiators ∷ ltb (self .«target_idx») targets ∷ []) ⌝ }
+    {
+        if initiators <= self.initiator_idx as u32 {
+            return 1;
+        }
+        if targets <= self.target_idx as u32 {
+            return 1 + Self::TARGET_AT;
+        }
+        0
+    }
+
+    // Whether the whole record of a cell of an I by T matrix stands at a place of a recipe.
+    pub fn stands(recipe: &[u8], at: usize, initiators: u32, targets: u32) -> bool
+        ensures { λ r. ⌜ r ≡ goodCell (now (recipe .entry)) at initiators targets ⌝ }
+    {
+        if recipe.len() <= at {
+            return false;
+        }
+        if recipe.len() - at < 1 + Self::BODY {
+            return false;
+        }
+        if recipe[at] != Self::KIND {
+            return false;
+        }
+        let from = at + 1;
+        let end = from + Self::BODY;
+        Self::from_body(&recipe[from..end]).bad_field(initiators, targets) == 0
     }
 }
 
@@ -466,12 +826,30 @@ pub struct MemorySideCache {
 }
 
 impl MemorySideCache {
+    // The kind byte, and the length of the body behind it.
+    pub const KIND: u8 = 53;
+
+    pub const BODY: usize = 16;
+
     pub const TYPE: u16 = 2;
 
     // without handles
     pub const LEN: usize = 32;
 
     pub const MAX_HANDLES: u16 = 65535;
+
+    // the highest level, associativity and policy
+    const MAX_LEVEL: u32 = 3;
+
+    const MAX_ASSOCIATIVITY: u32 = 2;
+
+    const MAX_POLICY: u32 = 2;
+
+    // Where the field that has a range stands in a body.
+    const ATTRIBUTES_AT: usize = 12;
+
+    // Kind, domain, size, attributes.
+    const BODY_WIDTHS: [usize; 4] = [1, 4, 8, 4];
 
     // Type, 2 zero, length, domain, 4 zero, size, attributes, 2 zero, n.
     const WIDTHS: [usize; 9] = [2, 2, 4, 4, 4, 8, 4, 2, 2];
@@ -504,7 +882,7 @@ impl MemorySideCache {
     pub fn len(self) -> usize
         ensures { λ r. ⌜ r ≡ size (sideForm self) ⌝ }
     {
-        Self::LEN + 2 * self.smbios_handles as usize
+        Self::LEN + SmbiosHandle::LEN * self.smbios_handles as usize
     }
 
     // Writes the record without handles.
@@ -528,11 +906,11 @@ impl MemorySideCache {
     fn handle_place(at: usize, i: usize) -> usize
         ensures { λ r. ⌜ r ≡ min (at + 32 + 2 * i) (2 ^ 64 - 1) ⌝ }
     {
-        behind(behind(at, Self::LEN, 1), 2, i)
+        behind(behind(at, Self::LEN, 1), SmbiosHandle::LEN, i)
     }
 
     // Writes a handle of the side cache at a place.
-    pub fn put_handle(out: &mut [u8], at: usize, i: usize, handle: u16)
+    fn put_handle(out: &mut [u8], at: usize, i: usize, handle: u16)
         ensures { λ _. ⌜ now (out .exit) ≡ over (now (out .entry)) (at + 32 + 2 * i) (le 2 handle) ⌝ }
     {
         let place = Self::handle_place(at, i);
@@ -540,13 +918,17 @@ impl MemorySideCache {
     }
 
     // Makes of the record of n handles, at a place, that of one handle more.
-    pub fn grow(out: &mut [u8], at: usize, n: u16, handle: u16)
-        ensures { λ _. ⌜ now (out .exit) ≡ grown (now (out .entry)) at n handle ⌝ }
+    pub fn grow(out: &mut [u8], at: usize, n: u16, handle: SmbiosHandle)
+        ensures { λ _. ⌜ now (out .exit) ≡ grown (now (out .entry)) at n (handle .0) ⌝ }
     {
         let more = n as u32 + 1;
-        field::put_u32(out, behind(at, 4, 1), 32 + 2 * more);
+        field::put_u32(
+            out,
+            behind(at, 4, 1),
+            Self::LEN as u32 + SmbiosHandle::LEN as u32 * more,
+        );
         field::put_u16(out, behind(at, 30, 1), (more % 65536) as u16);
-        Self::put_handle(out, at, n as usize, handle);
+        Self::put_handle(out, at, n as usize, handle.0);
     }
 
     // Reads the record at a place, without handles.
@@ -563,9 +945,161 @@ impl MemorySideCache {
     }
 
     // Reads a handle of the side cache at a place.
-    pub fn smbios_handle(table: &[u8], at: usize, i: usize) -> u16
-        ensures { λ r. ⌜ r ≡ value (part (now (table .entry)) (at + 32 + 2 * i) 2) ⌝ }
+    pub fn smbios_handle(table: &[u8], at: usize, i: usize) -> SmbiosHandle
+        ensures { λ r. ⌜ r .0 ≡ value (part (now (table .entry)) (at + 32 + 2 * i) 2) ⌝ }
     {
-        field::get_u16(table, Self::handle_place(at, i))
+        SmbiosHandle(field::get_u16(table, Self::handle_place(at, i)))
+    }
+    // The Length column of the row.
+    pub fn fits(row: &[u8]) -> bool
+        ensures { λ r. ⌜ r ≡ column sides (now (row .entry)) ⌝ }
+    {
+        Self::LEN <= row.len()
+    }
+
+    // Zeros, fixed values, count and length of a record.
+    pub fn is_fixed(row: &[u8]) -> bool
+        ensures { λ r. ⌜ r ≡ fixedOk (layout (formIn sides (now (row .entry)))) (now (row .entry)) ⌝ }
+    {
+        if field::get_u16(row, 0) != Self::TYPE {
+            return false;
+        }
+        if field::get_u16(row, 2) != 0 {
+            return false;
+        }
+        if field::get_u32(row, 4) as usize != Self::get(row, 0).len() {
+            return false;
+        }
+        if field::get_u32(row, 12) != 0 {
+            return false;
+        }
+        field::get_u16(row, 28) == 0
+    }
+
+    // The node of a body.
+    pub fn from_body(bytes: &[u8]) -> Self
+        ensures { λ r. ⌜ sideHead r ≡ node (side 0) (fields (body Side) (now (bytes .entry))) ⌝ }
+    {
+        Self {
+            proximity_domain: field::get_u32(bytes, 0),
+            cache_size: field::get_u64(bytes, 4),
+            attributes: field::get_u32(bytes, Self::ATTRIBUTES_AT),
+            smbios_handles: 0,
+        }
+    }
+
+    // Writes kind byte and body, without handles; how many bytes that is.
+    pub fn put_body(self, out: &mut [u8], at: usize) -> usize
+        ensures { λ _. ⌜ now (out .exit) ≡ over (now (out .entry)) at (call Side (sideFields self)) ⌝ }
+        ensures { λ r. ⌜ r ≡ length (call Side (sideFields self)) ⌝ }
+    {
+        let vs = [
+            Self::KIND as u64,
+            self.proximity_domain as u64,
+            self.cache_size,
+            self.attributes as u64,
+        ];
+        field::put_all(out, at, &Self::BODY_WIDTHS, &vs);
+        1 + Self::BODY
+    }
+
+    // The parts of the attributes: levels, associativity and policy, four bits each, and the line size.
+    pub fn total_cache_levels(self) -> u32
+        ensures { λ r. ⌜ r ≡ bits (self .attributes) 0 4 ⌝ }
+    {
+        self.attributes % 16
+    }
+
+    pub fn this_cache_level(self) -> u32
+        ensures { λ r. ⌜ r ≡ bits (self .attributes) 4 4 ⌝ }
+    {
+        self.attributes / 16 % 16
+    }
+
+    pub fn associativity(self) -> u32
+        ensures { λ r. ⌜ r ≡ bits (self .attributes) 8 4 ⌝ }
+    {
+        self.attributes / 256 % 16
+    }
+
+    pub fn write_policy(self) -> u32
+        ensures { λ r. ⌜ r ≡ bits (self .attributes) 12 4 ⌝ }
+    {
+        self.attributes / 4096 % 16
+    }
+
+    pub fn cacheline_size(self) -> u32
+        ensures { λ r. ⌜ r ≡ self .attributes / 65536 ⌝ }
+    {
+        self.attributes / 65536
+    }
+
+    // Levels, associativity and policy in their ranges.
+    fn is_good_attributes(self) -> bool
+        ensures { λ r. ⌜ r ≡ sideAttributes (self .attributes) ⌝ }
+    {
+        if Self::MAX_LEVEL < self.total_cache_levels() {
+            return false;
+        }
+        if Self::MAX_LEVEL < self.this_cache_level() {
+            return false;
+        }
+        if Self::MAX_ASSOCIATIVITY < self.associativity() {
+            return false;
+        }
+        self.write_policy() <= Self::MAX_POLICY
+    }
+
+    // The place of the first field outside its range, counted from the kind byte; 0 for none.
+    pub fn bad_field(self) -> usize
+        ensures { λ r. ⌜ r ≡ badField (sideHead self) ⌝ }
+    {
+        if !self.is_good_attributes() {
+            return 1 + Self::ATTRIBUTES_AT;
+        }
+        0
+    }
+
+    // Whether a record is fixed where it has to be, and no field outside its range.
+    pub fn is_sound(row: &[u8]) -> bool
+        ensures { λ r. ⌜ r ≡ sound (formIn sides (now (row .entry))) (now (row .entry)) ⌝ }
+    {
+        if !Self::is_fixed(row) {
+            return false;
+        }
+        Self::get(row, 0).bad_field() == 0
+    }
+}
+
+// The SMBIOS handle of a side cache's component.
+pub struct SmbiosHandle(pub u16);
+
+impl SmbiosHandle {
+    // The kind byte, and the length of the body behind it.
+    pub const KIND: u8 = 54;
+
+    pub const BODY: usize = 2;
+
+    // in a side cache's record
+    pub const LEN: usize = 2;
+
+    // Kind, handle.
+    const BODY_WIDTHS: [usize; 2] = [1, 2];
+
+    // The handle of a body.
+    pub fn from_body(bytes: &[u8]) -> Self
+        ensures { λ r. ⌜ handleFields r ≡ fields (body format.Handle) (now (bytes .entry)) ⌝ }
+    {
+        Self(field::get_u16(bytes, 0))
+    }
+
+    // Writes kind byte and body; how many bytes that is.
+    pub fn put_body(self, out: &mut [u8], at: usize) -> usize
+        ensures { λ _. ⌜ now (out .exit) ≡ over (now (out .entry)) at (call format.Handle (handleFields self)) ⌝ }
+        ensures { λ r. ⌜ r ≡ length (call format.Handle (handleFields self)) ⌝ }
+    {
+        let vs = [Self::KIND as u64, self.0 as u64];
+        field::put_all(out, at, &Self::BODY_WIDTHS, &vs);
+        1 + Self::BODY
     }
 }

@@ -3,10 +3,11 @@ use mathlib.Core.Path.{_≡_, refl}
 use Prim.Native.Nat.{ℕ, zero, suc, _≤_}
 use mathlib.Core.List.{List, [], _∷_, _++_, append-assoc, append-nil, map}
 use native.Mathlib.Omega.{arith}
-use lib.ListN.{length, drop, replicate}
-use Rattle.format.specs.Bytes.{le, join}
+use lib.ListN.{length, drop, replicate, length-append}
+use Rattle.format.specs.Bytes.{le, join, sum}
 use Rattle.format.specs.Layout.{Item, wide, arity, arities, numberWith, layWith}
 use Rattle.laws.specs.Numbers.{numbers}
+use Rattle.laws.proofs.Bytes.{length-le}
 use Rattle.laws.proofs.Lays.{rest-length, item-append}
 
 module _ (g : ℕ → ℕ) where
@@ -35,3 +36,10 @@ join-more zero w [] v l = join-one w v
 join-more zero w (x ∷ vs) v l = absurd (omega arith)
 join-more (suc n) w [] v l = absurd (omega arith)
 join-more (suc n) w (x ∷ vs) v l = rw (join-more n w vs v (omega arith), append-assoc)
+
+-- numbers take no more bytes than their widths are
+pub join-short : (ws vs : List ℕ) → length (join ws vs) ≤ sum ws
+unfolding join sum
+join-short [] vs = omega arith
+join-short (w ∷ ws) [] = omega arith
+join-short (w ∷ ws) (v ∷ vs) = rw (length-append, length-le) (omega (arith, join-short ws vs))

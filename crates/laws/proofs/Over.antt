@@ -1,10 +1,11 @@
 -- Bytes laid over joined lists, over what was laid before, and what that does to the sum: by induction over the buffer.
-use mathlib.Core.Path.{_≡_, refl, ap, _∙_}
-use Prim.Native.Nat.{ℕ, zero, suc, _+_, _≤_}
-use mathlib.Core.List.{List, [], _∷_, _++_}
+use mathlib.Core.Path.{_≡_, refl, sym, ap, _∙_}
+use Prim.Native.Nat.{ℕ, zero, suc, _+_, _-_, _≤_}
+use mathlib.Core.List.{List, [], _∷_, _++_, append-nil}
+use mathlib.Core.Logic.{_⊎_, inl, inr, ⊎-elim}
 use native.Mathlib.Omega.{arith}
 use native.Mathlib.Nat.{zero-add, suc-add}
-use lib.ListN.{length, take, drop, length-append}
+use lib.ListN.{length, take, drop, length-append, length-take, length-drop, take-append-drop}
 use lib.Seq.{drop-append-add, drop-append-le, take-append-le}
 use Rattle.format.specs.Bytes.{over, part, sum}
 use Rattle.laws.proofs.Bytes.{over-all}
@@ -76,3 +77,25 @@ sum-over [] (c ∷ cs) p l = absurd (omega arith)
 sum-over (x ∷ xs) cs (suc p) l = omega (arith, sum-over xs cs p (omega arith))
 sum-over (x ∷ xs) [] zero l = omega arith
 sum-over (x ∷ xs) (c ∷ cs) zero l = omega (arith, sum-over xs cs zero (omega arith))
+
+-- ---- a window: k bytes from place a on, lent as a slice of their own
+
+-- what is laid over the first of two lists, and does not reach past it, or the second is empty
+over-front : (qs rs cs : List ℕ) → (length cs ≤ length qs) ⊎ (length rs ≡ 0) → over (qs ++ rs) 0 cs ≡ over qs 0 cs ++ rs
+over-front qs rs cs (inl h) = over-left qs rs cs 0 (rw zero-add h)
+over-front qs [] cs (inr h) = rw (append-nil, append-nil)
+over-front qs (r ∷ rs) cs (inr h) = absurd (omega arith)
+
+-- what is laid over a window is laid over the whole, where it does not reach past the window, or the window ends where the whole does
+pub over-window : (xs ys cs : List ℕ) (a k : ℕ) → a + k ≤ length xs → (length cs ≤ k) ⊎ (a + k ≡ length xs) → ys ≡ over (take k (drop a xs)) 0 cs
+    → take a xs ++ (ys ++ drop k (drop a xs)) ≡ over xs a cs
+over-window xs ys cs a k h w e =
+    let ps = take a xs in
+    let qs = take k (drop a xs) in
+    let rs = drop k (drop a xs) in
+    let lp : length ps + 0 ≡ a = simp length-take (omega arith) in
+    let lq : length qs ≡ k = simp (length-take, length-drop) (omega arith) in
+    let lr : length rs ≡ length xs - a - k = simp length-drop in
+    let whole : xs ≡ ps ++ (qs ++ rs) = sym (ap (λ (l : List ℕ). ps ++ l) (take-append-drop k (drop a xs)) ∙ take-append-drop a xs) in
+    let fits : (length cs ≤ length qs) ⊎ (length rs ≡ 0) = ⊎-elim (λ l. inl (omega arith)) (λ z. inr (omega arith)) w in
+    rw e (ap (λ (l : List ℕ). ps ++ l) (sym (over-front qs rs cs fits)) ∙ sym (over-right ps (qs ++ rs) cs 0) ∙ ap (λ (p : ℕ). over (ps ++ (qs ++ rs)) p cs) lp ∙ ap (λ (l : List ℕ). over l a cs) (sym whole))

@@ -1,4 +1,4 @@
--- The record of a processor: its fixed part with its resources behind, how it grows, and what it shows.
+-- The record of a processor: its fixed part with its resources behind, how it grows, what has to be fixed in it, where its parent stands, and what it shows.
 use mathlib.Core.Path.{_≡_, refl, sym, _∙_}
 use Prim.Native.Nat.{ℕ, zero, suc, _+_, _*_, _≤_, _<_}
 use mathlib.Core.List.{List, [], _∷_, _++_, append-assoc}
@@ -10,18 +10,21 @@ use borrow.Author.Tests.{eqb-true}
 use lib.ListN.{length, take, replicate, length-append}
 use lib.Seq.{getD-append-add}
 use lib.Dec.{eqb}
-use Rattle.format.specs.Bytes.{both, at, le, value, part, join, over}
+use Rattle.format.specs.Bytes.{both, all, at, le, value, part, join, over}
 use Rattle.format.specs.Layout.{to, asIs, layWith, lay, width, fields, fixedOk}
 use Rattle.format.specs.Form.{processor, size, layout}
 use Rattle.format.specs.Node.{node, bytes}
+use Rattle.format.specs.Kind.{Processor, body}
 use Rattle.format.specs.Read.{shown}
 use Rattle.laws.specs.Offsets.{fieldsAt, fixedAt}
 use Rattle.laws.proofs.Bytes.{length-le, length-over, over-over, over-past}
+use Rattle.laws.proofs.Tests.{both-right}
 use Rattle.laws.proofs.Lays.{both-true, length-lay}
 use Rattle.laws.proofs.Over.{over-within-first}
 use Rattle.laws.proofs.Joins.{lay-append, join-more}
 use Rattle.laws.proofs.Nodes.{length-bytes}
-use Rattle.laws.proofs.Offsets.{fields-at, fixed-at}
+use Rattle.laws.proofs.Offsets.{fields-at}
+use Rattle.laws.proofs.Fields.{fixed-now}
 use Rattle.pptt.specs.declared.CacheHandle.{CacheHandle}
 use Rattle.pptt.specs.declared.ProcessorNode.{ProcessorNode}
 use Rattle.pptt.specs.Processor.{processorShown, processorNode, fixedPart, grown, processorIn, resourceIn}
@@ -77,19 +80,38 @@ module _ (a b c : ℕ) where
 
 -- ---- reading
 
+-- the parent is the second field of a record, whatever its resources, and of a body
+pub parent-record : (bs : List ℕ) → at (fields (layout (processor 0)) bs) 1 ≡ value (part bs 8 4)
+unfolding layout
+parent-record bs = rw (fields-at asIs (layout (processor 0)) bs 0)
+
+pub parent-body : (bs : List ℕ) → at (fields (body Processor) bs) 1 ≡ value (part bs 4 4)
+unfolding body
+parent-body bs = rw (fields-at asIs (body Processor) bs 0)
+
 -- the values of a node, as the format shows them
 pub processor-shown : (p : ProcessorNode) (ws : List ℕ) → processorShown p ≡ shown (processor (p .resources)) (processorNode p ws .values)
 unfolding shown
 processor-shown p ws = refl
 
-fourth : (a b c d e : Bool) → both a (both b (both c (both d e))) ≡ true → d ≡ true
-fourth a b c d e h = both-true d e (both-true c (both d e) (both-true b (both c (both d e)) (both-true a (both b (both c (both d e))) h .1) .1) .1) .0
+fixed-resources : (n : ℕ) (bs : List ℕ) (p : ℕ) → fixedAt (replicate n (to 1)) bs p ≡ true
+fixed-resources zero bs p = refl
+fixed-resources (suc n) bs p = fixed-resources n bs (p + 4)
+
+-- type, length, zeros and the number of resources
+pub processor-fixed : (n : ℕ) (bs : List ℕ)
+    → fixedOk (layout (processor n)) bs ≡ all (eqb (value (part bs 0 1)) 0 ∷ eqb (value (part bs 1 1)) (size (processor n)) ∷ eqb (value (part bs 2 2)) 0 ∷ eqb (value (part bs 16 4)) n ∷ [])
+unfolding layout
+processor-fixed n bs = rw (fixed-now, fixed-resources, both-right)
+
+fourth : (a b c d : Bool) → all (a ∷ b ∷ c ∷ d ∷ []) ≡ true → d ≡ true
+fourth a b c d h = both-true c d (both-true b (both c d) (both-true a (both b (both c d)) h .1) .1) .1
 
 -- of a record with the fixed values of n resources these are the values that the format shows
 pub record-shown : (n : ℕ) (bs : List ℕ) → fixedOk (layout (processor n)) bs ≡ true → processorIn bs ≡ shown (processor n) (fields (layout (processor n)) bs)
-unfolding processorIn layout
+unfolding processorIn
 record-shown n bs e =
-    let count = fourth (eqb (value (part bs 0 1)) 0) (eqb (value (part bs 1 1)) (size (processor n))) (eqb (value (part bs 2 2)) 0) (eqb (value (part bs 16 4)) n) (fixedAt (replicate n (to 1)) bs 20) (sym (fixed-at (layout (processor n)) bs 0) ∙ e) in
+    let count = fourth (eqb (value (part bs 0 1)) 0) (eqb (value (part bs 1 1)) (size (processor n))) (eqb (value (part bs 2 2)) 0) (eqb (value (part bs 16 4)) n) (sym (processor-fixed n bs) ∙ e) in
     rw (eqb-true (value (part bs 16 4)) n count)
 
 at-offset : (n p i : ℕ) (bs : List ℕ) → i < n → at (fieldsAt asIs (replicate n (to 1)) bs p) i ≡ value (part bs (p + 4 * i) 4)

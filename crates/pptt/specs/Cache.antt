@@ -6,6 +6,7 @@ use lib.ListN.{set}
 use Rattle.format.specs.Bytes.{at}
 use Rattle.format.specs.Form.{cache}
 use Rattle.format.specs.Node.{Node, node}
+use Rattle.pptt.specs.declared.CacheHandle.{CacheHandle}
 use Rattle.pptt.specs.declared.CacheNode.{CacheNode}
 use Rattle.pptt.specs.declared.CacheNodeBuilder.{CacheNodeBuilder}
 use Rattle.pptt.specs.declared.AllocationType.{AllocationType}
@@ -21,6 +22,11 @@ cacheShown n = n .flags ∷ n .«next_level» .0 ∷ n .size ∷ n .«set_count�
 
 abbrev pub cacheNode : CacheNode → Node
 cacheNode n = node cache (cacheShown n)
+
+-- before another cache; the rest stays
+abbrev pub cacheBefore : CacheNode → CacheHandle → CacheNode
+cacheBefore n h =
+    record { flags = n .flags; «next_level» = h; size = n .size; «set_count» = n .«set_count»; associativity = n .associativity; attributes = n .attributes; «line_size» = n .«line_size»; id = n .id }
 
 -- the values that a builder has
 abbrev pub made : CacheNodeBuilder → List ℕ

@@ -11,6 +11,7 @@ use Rattle.format.specs.Read.{shown}
 use Rattle.pptt.specs.declared.CacheHandle.{CacheHandle}
 use Rattle.pptt.specs.declared.ProcessorHandle.{ProcessorHandle}
 use Rattle.pptt.specs.declared.ProcessorNode.{ProcessorNode}
+use Rattle.pptt.specs.declared.Resource.{Resource}
 
 -- the fields before the resources
 abbrev pub processorFields : ProcessorNode → List ℕ
@@ -50,3 +51,7 @@ processorIn bs = let n : ℕ = value (part bs 16 4) in shown (processor n) (fiel
 -- the i-th resource of the record that bs begin with
 abbrev pub resourceIn : List ℕ → ℕ → CacheHandle
 resourceIn bs i = record { 0 = value (part bs (size (processor i)) 4) }
+
+-- the one field of a resource
+abbrev pub resourceFields : Resource → List ℕ
+resourceFields r = r .cache .0 ∷ []

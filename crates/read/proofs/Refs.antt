@@ -59,16 +59,16 @@ module _ (ok : ℕ → ℕ → Bool) where
 
   -- ---- the others
 
-  pub cache-refs : (bs : List ℕ) → isGood ok (orNone 1) (value (part bs 8 4)) ≡ refsIn ok (some caches) bs
-  unfolding refsIn formIn layout refsGood
-  cache-refs bs = rw (fields-at asIs (layout cache) bs 0) (sym (both-right (isGood ok (orNone 1) (value (part bs 8 4)))))
+  pub cache-refs : (bs : List ℕ) → isGood ok (orNone 1) (at (fields (layout cache) bs) 1) ≡ refsIn ok (some caches) bs
+  unfolding refsIn formIn layout refsGood fieldsWith
+  cache-refs bs = sym (both-right (isGood ok (orNone 1) (at (fields (layout cache) bs) 1)))
 
   processor-by : (bs : List ℕ) (n : ℕ)
-      → refsGood ok (layout (processor n)) (fields (layout (processor n)) bs) ≡ both (isGood ok (orNone 0) (value (part bs 8 4))) (linked ok n (drop 20 bs))
+      → refsGood ok (layout (processor n)) (fields (layout (processor n)) bs) ≡ both (isGood ok (orNone 0) (at (fields (layout (processor 0)) bs) 1)) (linked ok n (drop 20 bs))
   unfolding layout refsGood linked
-  processor-by bs n = rw (fields-at asIs (layout (processor n)) bs 0, ← fields-at asIs (replicate n (to 1)) bs 20)
+  processor-by bs n = rw (fields-at asIs (layout (processor n)) bs 0, fields-at asIs (layout (processor 0)) bs 0, ← fields-at asIs (replicate n (to 1)) bs 20)
 
-  pub processor-refs : (bs : List ℕ) → refsIn ok (some processors) bs ≡ both (isGood ok (orNone 0) (value (part bs 8 4))) (linked ok (length (drop 20 bs) / 4) (drop 20 bs))
+  pub processor-refs : (bs : List ℕ) → refsIn ok (some processors) bs ≡ both (isGood ok (orNone 0) (at (fields (layout (processor 0)) bs) 1)) (linked ok (length (drop 20 bs) / 4) (drop 20 bs))
   unfolding refsIn formIn
   processor-refs bs = rw length-drop (processor-by bs ((length bs - 20) / 4))
 

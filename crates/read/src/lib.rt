@@ -21,8 +21,11 @@ use header::Table;
 use hmat::MemoryProximityDomain;
 use hmat::MemorySideCache;
 use hmat::SystemLocality;
+use pptt::CacheHandle;
 use pptt::CacheNode;
+use pptt::ProcessorHandle;
 use pptt::ProcessorNode;
+use pptt::Resource;
 use rows::Row;
 use srat::GenericInitiator;
 use srat::MemoryAffinity;
@@ -31,7 +34,7 @@ use srat::RintcAffinity;
 // ---- the judgement: c is a table's own bytes
 
 // Marks: places that the walk from the front has come to, one for each of as many equal parts of the table.
-const MARKS: usize = 64;
+const MARKS: usize = 256;
 
 // The part in which a place is. No proof asks which: a mark is good wherever it stands.
 fn part_of(len: usize, p: usize) -> usize {
@@ -80,27 +83,52 @@ fn refers(t: Table, c: &[u8], marks: &[usize], own: usize, v: usize, kind: u16) 
     frames::starts(t, c, near(t, c, marks, v), v, kind)
 }
 
-// Whether v is 0, or the start of a record of type kind before the one at own.
-fn refers_or_none(t: Table, c: &[u8], marks: &[usize], own: usize, v: u32, kind: u16) -> bool
+// Whether a handle is none, or names a processor before the record at own.
+fn names_processor_or_none(
+    t: Table,
+    c: &[u8],
+    marks: &[usize],
+    own: usize,
+    h: ProcessorHandle,
+) -> bool
     requires { ⌜ Marked (meant t) (now c) (now marks) ⌝ }
-    ensures { λ r. ⌜ r ≡ isGood (refers (meant t) (now (c .entry)) own) (orNone kind) v ⌝ }
+    ensures { λ r. ⌜ r ≡ isGood (refers (meant t) (now (c .entry)) own) (orNone 0) (h .0) ⌝ }
 {
-    if v == 0 {
+    if h.0 == 0 {
         return true;
     }
-    refers(t, c, marks, own, v as usize, kind)
+    refers(t, c, marks, own, h.0 as usize, ProcessorNode::TYPE as u16)
 }
 
-// Whether each of the offsets is the start of a cache's record before the one at own.
-fn links(t: Table, c: &[u8], marks: &[usize], own: usize, offsets: &[u8]) -> bool
+// Whether a handle names a cache before the record at own.
+fn names_cache(t: Table, c: &[u8], marks: &[usize], own: usize, h: CacheHandle) -> bool
     requires { ⌜ Marked (meant t) (now c) (now marks) ⌝ }
-    ensures { λ r. ⌜ r ≡ linked (refers (meant t) (now (c .entry)) own) (length (now (offsets .entry)) / 4) (now (offsets .entry)) ⌝ }
+    ensures { λ r. ⌜ r ≡ refers (meant t) (now (c .entry)) own (h .0) 1 ⌝ }
 {
-    let n = offsets.len() / 4;
+    refers(t, c, marks, own, h.0 as usize, CacheNode::TYPE as u16)
+}
+
+// Whether it is none, or names one.
+fn names_cache_or_none(t: Table, c: &[u8], marks: &[usize], own: usize, h: CacheHandle) -> bool
+    requires { ⌜ Marked (meant t) (now c) (now marks) ⌝ }
+    ensures { λ r. ⌜ r ≡ isGood (refers (meant t) (now (c .entry)) own) (orNone 1) (h .0) ⌝ }
+{
+    if h.0 == 0 {
+        return true;
+    }
+    names_cache(t, c, marks, own, h)
+}
+
+// Whether each of the resources names a cache before the record at own.
+fn links(t: Table, c: &[u8], marks: &[usize], own: usize, resources: &[u8]) -> bool
+    requires { ⌜ Marked (meant t) (now c) (now marks) ⌝ }
+    ensures { λ r. ⌜ r ≡ linked (refers (meant t) (now (c .entry)) own) (length (now (resources .entry)) / 4) (now (resources .entry)) ⌝ }
+{
+    let n = resources.len() / Resource::LEN;
     let mut i = 0;
     while i < n {
-        let v = field::get_u32(offsets, 4 * i) as usize;
-        if !refers(t, c, marks, own, v, CacheNode::TYPE as u16) {
+        let cache = CacheHandle(field::get_u32(resources, Resource::LEN * i));
+        if !names_cache(t, c, marks, own, cache) {
             return false;
         }
         i += 1;
@@ -115,16 +143,12 @@ fn refs_good(t: Table, c: &[u8], marks: &[usize], own: usize, row: Row, body: &[
 {
     match row {
         Row::Processors => {
-            let parent = field::get_u32(body, 8);
-            if !refers_or_none(t, c, marks, own, parent, ProcessorNode::TYPE as u16) {
+            if !names_processor_or_none(t, c, marks, own, ProcessorNode::parent_of(body)) {
                 return false;
             }
             links(t, c, marks, own, field::rest(body, ProcessorNode::LEN))
         }
-        Row::Caches => {
-            let next_level = field::get_u32(body, 8);
-            refers_or_none(t, c, marks, own, next_level, CacheNode::TYPE as u16)
-        }
+        Row::Caches => names_cache_or_none(t, c, marks, own, CacheNode::next_level_of(body)),
         Row::Memories => true,
         Row::Initiators => true,
         Row::Rintcs => true,
@@ -231,7 +255,7 @@ pub fn first_place(table: &[u8]) -> usize
 }
 
 // The bytes of the record at a place. The next record starts behind them.
-pub fn body_at(table: &[u8], place: usize) -> &[u8]
+fn body_at(table: &[u8], place: usize) -> &[u8]
     ensures { λ r. ⌜ now r ≡ bodyAt (now (table .entry)) place ⌝ }
 {
     match frames::signed(table) {
@@ -259,7 +283,7 @@ fn processor_in(body: &[u8]) -> ProcessorNode
     ensures { λ r. ⌜ processorShown r ≡ fieldsOf (some processors) (now (body .entry)) ⌝ }
 {
     let mut n = ProcessorNode::get(body, 0);
-    n.resources = (field::rest(body, ProcessorNode::LEN).len() / 4) as u32;
+    n.resources = ProcessorNode::resources_in(body.len()) as u32;
     n
 }
 

@@ -1,21 +1,19 @@
--- Writing list after list: what is still to come is laid over what there is; calls as numbers at their widths, and lists of a layout turn by turn.
+-- Writing list after list: what is still to come is laid over what there is; calls by their low bytes, and lists of a layout turn by turn.
 use mathlib.Core.Path.{_≡_, refl, sym, ap, subst, _∙_}
-use Prim.Native.Nat.{ℕ, zero, suc, _+_, _*_, _-_, _/_, _%_, _≤_, _<_}
-use mathlib.Core.List.{List, [], _∷_, _++_, append-nil, map}
+use Prim.Native.Nat.{ℕ, zero, suc, _+_, _*_, _-_, _%_, _≤_, _<_}
+use mathlib.Core.List.{List, [], _∷_, _++_, append-nil}
 use native.Mathlib.Omega.{arith}
 use native.Mathlib.Numerals.{add-one}
-use native.Mathlib.Nat.{mod-eq-of-lt, add-comm, mul-zero, mul-suc}
-use lib.ListN.{length, replicate, set, length-append}
+use native.Mathlib.Nat.{add-comm, mul-zero, mul-suc}
+use lib.ListN.{length, replicate, length-append}
 use lib.Dec.{eqb}
-use Rattle.format.specs.Bytes.{pick, value, part, le, join, over}
-use Rattle.format.specs.Layout.{Item, fld, to, wide, takenWith, asIs, width}
-use Rattle.format.specs.Kind.{Kind, Processor, Resource, Cache, Memory, Acpi, Pci, Rintc, Domain, Matrix, Initiator, Target, Cell, Side, Handle, kindNumber, body}
+use Rattle.format.specs.Bytes.{pick, value, part, le, over}
+use Rattle.format.specs.Layout.{Item, to, wide, takenWith, width, layWith, lay}
+use Rattle.format.specs.Kind.{Kind, Processor, Resource, Cache, Initiator, Cell, body}
 use Rattle.format.specs.Normal.{call, each, eachSet}
-use Rattle.laws.specs.Numbers.{numbers}
 use Rattle.laws.specs.Offsets.{fieldsAt}
-use Rattle.laws.proofs.Bytes.{over-over, over-next, over-none, over-past, over-one, length-over}
-use Rattle.laws.proofs.Lays.{length-lay}
-use Rattle.laws.proofs.Joins.{lay-join}
+use Rattle.laws.proofs.Bytes.{le-mod, over-over, over-none, over-past, length-over}
+use Rattle.laws.proofs.Fields.{length-call}
 use Rattle.readout.specs.Laid.{Laid}
 use Rattle.readout.specs.Places.{setting}
 
@@ -51,53 +49,36 @@ laid-on {a} {b} {c} {xs} {ys} {p} {q} {r} l m = all-laid (come m (rw append-nil 
 
 -- ---- calls
 
-pub call-join : (k : Kind) (vs : List ℕ) → call k vs ≡ join (1 ∷ map wide (body k)) (kindNumber k ∷ numbers asIs (body k) vs)
-unfolding join le
-call-join k vs = rw (lay-join asIs (body k) vs) (by k)
-  where
-    by : (k : Kind) → kindNumber k ∷ join (map wide (body k)) (numbers asIs (body k) vs) ≡ le 1 (kindNumber k) ++ join (map wide (body k)) (numbers asIs (body k) vs)
-    by Processor = refl
-    by Resource = refl
-    by Cache = refl
-    by Memory = refl
-    by Acpi = refl
-    by Pci = refl
-    by Rintc = refl
-    by Domain = refl
-    by Matrix = refl
-    by Initiator = refl
-    by Target = refl
-    by Cell = refl
-    by Side = refl
-    by Handle = refl
+-- what a record's own call lays, and how many bytes that is
+pub put-laid : {a b xs ys : List ℕ} {p r : ℕ} → b ≡ over a p xs → r ≡ length xs → xs ≡ ys → Laid a b p ys (p + r)
+put-laid {a} {b} {xs} {ys} {p} {r} w l e = record { bytes = w ∙ ap (over a p) e; next = ap (λ (x : ℕ). p + x) (l ∙ ap length e) }
 
-pub length-call : (k : Kind) (vs : List ℕ) → length (call k vs) ≡ suc (width (body k))
-length-call k vs = ap suc (length-lay asIs (body k) vs)
+-- an index and a reference are written by their low bytes
+low-byte : (v : ℕ) → le 1 (v % 256) ≡ le 1 v
+low-byte v = le-mod 1 v
 
--- numbers laid at the widths of a kind's body are a call
-pub call-laid : (k : Kind) (vs a b : List ℕ) (p q : ℕ) → b ≡ over a p (join (1 ∷ map wide (body k)) (kindNumber k ∷ numbers asIs (body k) vs)) → q ≡ p + suc (width (body k)) → Laid a b p (call k vs) q
-call-laid k vs a b p q e n = record { bytes = rw (call-join k vs) e; next = rw (length-call k vs) n }
+low-word : (v : ℕ) → le 4 (v % 4294967296) ≡ le 4 v
+low-word v = le-mod 4 v
 
--- a cell byte by byte
-pub cell-bytes : (i j v : ℕ) (a : List ℕ) (p : ℕ) → v < 65536
-    → set (set (set (set (set a p 52) (p + 1) (i % 256)) (p + 2) (j % 256)) (p + 3) (v % 256)) (p + 4) (v / 256) ≡ over a p (call Cell (i ∷ j ∷ v ∷ []))
-unfolding join le body
-cell-bytes i j v a p h =
-    let hi : v / 256 < 256 = omega arith in
-    let one = over-one a p 52 in
-    let two = over-next a p _ _ (p + 1) _ _ one (over-one _ (p + 1) (i % 256)) refl in
-    let three = over-next a p _ _ (p + 2) _ _ two (over-one _ (p + 2) (j % 256)) refl in
-    let four = over-next a p _ _ (p + 3) _ _ three (over-one _ (p + 3) (v % 256)) refl in
-    rw (call-join Cell (i ∷ j ∷ v ∷ []), mod-eq-of-lt hi) (over-next a p _ _ (p + 4) _ _ four (over-one _ (p + 4) (v / 256)) refl)
+pub low-setting : (kind j v : ℕ) → kind ∷ lay (body Initiator) (j % 256 ∷ v ∷ []) ≡ setting kind j v
+unfolding layWith body
+low-setting kind j v = rw (low-byte j)
 
--- the same of a setting, whose kind is any byte
-pub setting-laid : (kind j v : ℕ) (a b : List ℕ) (p : ℕ) → kind < 256 → b ≡ over a p (join (1 ∷ 1 ∷ 4 ∷ []) (kind ∷ j ∷ v ∷ [])) → Laid a b p (setting kind j v) (p + 6)
-unfolding join le width
-setting-laid kind j v a b p h e =
-    let is = fld 1 ∷ fld 4 ∷ [] in
-    let front : kind ∷ join (1 ∷ 4 ∷ []) (j ∷ v ∷ []) ≡ join (1 ∷ 1 ∷ 4 ∷ []) (kind ∷ j ∷ v ∷ []) = rw (mod-eq-of-lt h) in
-    let laid : setting kind j v ≡ join (1 ∷ 1 ∷ 4 ∷ []) (kind ∷ j ∷ v ∷ []) = rw (lay-join asIs is (j ∷ v ∷ [])) front in
-    record { bytes = rw laid e; next = rw (length-lay asIs is (j ∷ v ∷ [])) }
+pub low-cell : (i j v : ℕ) → call Cell (i % 256 ∷ j % 256 ∷ v ∷ []) ≡ call Cell (i ∷ j ∷ v ∷ [])
+unfolding layWith body
+low-cell i j v = rw (low-byte i, low-byte j)
+
+pub low-resource : (x v : ℕ) → x ≡ v % 4294967296 → call Resource (x ∷ []) ≡ call Resource (v ∷ [])
+unfolding layWith body
+low-resource x v e = rw (e, low-word v)
+
+pub low-processor : (x v a b : ℕ) → x ≡ v % 4294967296 → call Processor (a ∷ x ∷ b ∷ []) ≡ call Processor (a ∷ v ∷ b ∷ [])
+unfolding layWith body
+low-processor x v a b e = rw (e, low-word v)
+
+pub low-cache : (x v a : ℕ) (bs : List ℕ) → x ≡ v % 4294967296 → call Cache (a ∷ x ∷ bs) ≡ call Cache (a ∷ v ∷ bs)
+unfolding layWith body
+low-cache x v a bs e = rw (e, low-word v)
 
 -- ---- lists of a layout
 
@@ -116,10 +97,10 @@ list-end g it bs n i p l =
 
 module _ {a b ys : List ℕ} {at p : ℕ} (g : ℕ → ℕ) (it : Item) (bs : List ℕ) (n i q : ℕ) where
   -- a call for each
-  pub come-each : {b′ : List ℕ} {p′ v : ℕ} (k : Kind) → i < n → takenWith g it (value (part bs q (wide it))) ≡ v ∷ [] → Laid b b′ p (call k (v ∷ [])) p′
-      → Coming a at ys b p (each k (fieldsAt g (replicate (n - i) it) bs q)) → Coming a at ys b′ p′ (each k (fieldsAt g (replicate (n - (i + 1)) it) bs (q + wide it)))
+  pub come-each : {b′ : List ℕ} {p′ v q′ : ℕ} (k : Kind) → i < n → takenWith g it (value (part bs q (wide it))) ≡ v ∷ [] → q′ ≡ q + wide it → Laid b b′ p (call k (v ∷ [])) p′
+      → Coming a at ys b p (each k (fieldsAt g (replicate (n - i) it) bs q)) → Coming a at ys b′ p′ (each k (fieldsAt g (replicate (n - (i + 1)) it) bs q′))
   unfolding each
-  come-each k l o c m = come c (rw (list-turn g it bs n i q l, o) at m)
+  come-each k l o s c m = rw s (come c (rw (list-turn g it bs n i q l, o) at m))
 
   pub each-laid : (k : Kind) → n ≤ i → Coming a at ys b p (each k (fieldsAt g (replicate (n - i) it) bs q)) → Laid a b at ys p
   unfolding each

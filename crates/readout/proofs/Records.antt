@@ -9,17 +9,31 @@ use borrow.Author.Tests.{eqb-true, eqb-false}
 use lib.Dec.{eqb}
 use lib.Seq.{take-at, drop-at, drop-drop}
 use lib.ListN.{length, length-append, take, drop, replicate, replicate-append-replicate}
-use Rattle.format.specs.Bytes.{pick, value, part}
-use Rattle.format.specs.Layout.{Item, fld, to, asIs, width}
-use Rattle.format.specs.Form.{Form, processor, acpi, pci, layout}
-use Rattle.format.specs.Row.{initiators, formIn}
-use Rattle.format.specs.Kind.{Processor, Resource, Cell, body}
+use Rattle.format.specs.Bytes.{pick, at, value, part, over}
+use Rattle.format.specs.Layout.{Item, fld, to, asIs, width, fieldsWith}
+use Rattle.format.specs.Form.{Form, processor, cache, memory, acpi, pci, rintc, domain, matrix, side, layout}
+use Rattle.format.specs.Row.{initiators, matrices, sides, formIn}
+use Rattle.format.specs.Kind.{Processor, Resource, Cache, Memory, Acpi, Pci, Rintc, Domain, Matrix, Cell, Side, Handle, body}
 use Rattle.format.specs.Normal.{call, each, eachSet, settings, calls}
 use Rattle.laws.specs.Offsets.{fieldsAt}
-use Rattle.laws.proofs.Bytes.{value-byte}
-use Rattle.laws.proofs.Offsets.{fields-at}
+use Rattle.format.specs.Node.{Node, node, nodeAt}
+use Rattle.format.specs.Read.{shown}
+use Rattle.format.specs.Field.{callsOfNode}
+use Rattle.laws.proofs.Finds.{never}
+use Rattle.laws.proofs.Fields.{length-call, plain, fields-plain}
+use Rattle.laws.proofs.Offsets.{fields-at, node-at}
+use Rattle.pptt.specs.declared.ProcessorHandle.{ProcessorHandle}
+use Rattle.pptt.specs.declared.ProcessorNode.{ProcessorNode}
+use Rattle.pptt.specs.declared.CacheHandle.{CacheHandle}
+use Rattle.pptt.specs.declared.CacheNode.{CacheNode}
+use Rattle.pptt.specs.Processor.{processorShown, processorIn}
+use Rattle.pptt.specs.Cache.{cacheShown, cacheNode, cacheBefore}
+use Rattle.hmat.specs.declared.SystemLocality.{SystemLocality}
+use Rattle.hmat.specs.declared.MemorySideCache.{MemorySideCache}
+use Rattle.hmat.specs.Hmat.{trimmed, matrixForm, matrixFields, matrixCall, matrixHead, sideForm, sideFields, sideHead}
+use Rattle.readout.specs.Laid.{Laid}
 use Rattle.readout.specs.Places.{setting, callsIn}
-use Rattle.readout.proofs.Lists.{length-call, length-each}
+use Rattle.readout.proofs.Lists.{length-each, low-processor, low-cache}
 
 -- the calls of a record are those of its fields by their places
 pub calls-at : (g : ℕ → ℕ) (f : Form) (bs : List ℕ) → callsIn g f bs ≡ calls f (fieldsAt g (layout f) bs 0)
@@ -38,10 +52,103 @@ pub list-plain : (g : ℕ → ℕ) (n w : ℕ) (bs : List ℕ) (p : ℕ) → fie
 list-plain g zero w bs p = refl
 list-plain g (suc n) w bs p = rw (list-plain g n w bs (p + w))
 
--- the number in the byte of the handle says the form of an initiator
-pub initiator-form : (bs : List ℕ) → formIn initiators bs ≡ pick (eqb (value (part bs 3 1)) 0) acpi pci
-unfolding formIn
-initiator-form bs = rw (value-byte bs 3)
+-- ---- records with a reference: the node that a record's own reading gives, under its handle's ordinal
+
+-- g: how a reference is read; h: the handle by which the node is written
+module _ (g : ℕ → ℕ) (bs : List ℕ) where
+  pub processor-named : (n : ProcessorNode) (h : ProcessorHandle) (k : ℕ) → processorShown n ≡ processorIn bs → h .0 ≡ g (n .parent .0) % 4294967296
+      → call Processor (n .flags ∷ h .0 ∷ n .«acpi_processor_id» ∷ []) ≡ call Processor (take 3 (fieldsAt g (layout (processor k)) bs 0))
+  unfolding processorIn shown layout
+  processor-named n h k e r =
+      let i = value (part bs 16 4) in
+      let s : processorShown n ≡ shown (processor i) (fieldsAt asIs (layout (processor i)) bs 0) = e ∙ ap (shown (processor i)) (fields-at asIs (layout (processor i)) bs 0) in
+      low-processor (h .0) (g (n .parent .0)) (n .flags) (n .«acpi_processor_id») r ∙ ap (λ (vs : List ℕ). call Processor (at vs 0 ∷ g (at vs 1) ∷ at vs 2 ∷ [])) s
+
+  pub cache-named : (n : CacheNode) (h : CacheHandle) → cacheNode n ≡ nodeAt asIs cache bs → h .0 ≡ g (n .«next_level» .0) % 4294967296
+      → callsOfNode (cacheNode (cacheBefore n h)) ≡ callsIn g cache bs
+  unfolding calls layout
+  cache-named n h e r =
+      let s : cacheShown n ≡ fieldsAt asIs (layout cache) bs 0 = ap (λ (m : Node). m .values) (e ∙ node-at asIs cache bs) in
+      low-cache (h .0) (g (n .«next_level» .0)) (n .flags) (drop 2 (cacheShown n)) r ∙ ap (λ (vs : List ℕ). call Cache (at vs 0 ∷ g (at vs 1) ∷ drop 2 vs)) s ∙ sym (calls-at g cache bs)
+
+-- ---- records with a list: the node before it, and the list
+
+pub matrix-counts : (bs : List ℕ) (n : SystemLocality) → matrixHead n ≡ trimmed 4 (nodeAt asIs (formIn matrices bs) bs)
+    → (n .initiators ≡ value (part bs 12 4)) × (n .targets ≡ value (part bs 16 4))
+unfolding formIn nodeAt
+matrix-counts bs n e =
+    let f : matrixForm n ≡ matrix (value (part bs 12 4)) (value (part bs 16 4)) = ap (λ (m : Node). m .form) e in
+    (cc, cc)
+
+pub matrix-calls : (g : ℕ → ℕ) (bs : List ℕ) (n : SystemLocality) → matrixHead n ≡ trimmed 4 (nodeAt asIs (formIn matrices bs) bs)
+    → callsIn g (formIn matrices bs) bs
+    ≡ call Matrix (matrixCall n) ++ settings (n .initiators) (n .targets) (fieldsAt g (replicate (n .initiators + n .targets) (fld 4) ++ replicate (n .initiators * n .targets) (fld 2)) bs 32)
+unfolding formIn calls layout
+matrix-calls g bs n e =
+    let (i, t) = matrix-counts bs n e in
+    let I = value (part bs 12 4) in
+    let T = value (part bs 16 4) in
+    let s : matrixFields n ≡ take 4 (fieldsAt g (layout (matrix I T)) bs 0) = ap (λ (m : Node). m .values) (e ∙ ap (trimmed 4) (node-at asIs (formIn matrices bs) bs)) in
+    let more = settings I T (fieldsAt g (replicate (I + T) (fld 4) ++ replicate (I * T) (fld 2)) bs 32) in
+    rw (calls-at g (formIn matrices bs) bs, i, t) (ap (λ (vs : List ℕ). call Matrix (vs ++ (I ∷ T ∷ [])) ++ more) (sym s))
+
+pub side-calls : (g : ℕ → ℕ) (bs : List ℕ) (n : MemorySideCache) → sideHead n ≡ trimmed 3 (nodeAt asIs (formIn sides bs) bs)
+    → callsIn g (formIn sides bs) bs ≡ call Side (sideFields n) ++ each Handle (fieldsAt asIs (replicate (n .«smbios_handles») (fld 2)) bs 32)
+unfolding formIn calls layout
+side-calls g bs n e =
+    let k = value (part bs 30 2) in
+    let d : sideHead n ≡ node (side k) (take 3 (fieldsAt g (layout (side k)) bs 0)) = e ∙ ap (trimmed 3) (node-at asIs (formIn sides bs) bs) in
+    let f : sideForm n ≡ side k = ap (λ (m : Node). m .form) d in
+    let i : n .«smbios_handles» ≡ k = cc in
+    let s : sideFields n ≡ take 3 (fieldsAt g (layout (side k)) bs 0) = ap (λ (m : Node). m .values) d in
+    rw (calls-at g (formIn sides bs) bs, s, i, list-plain g k 2 bs 32)
+
+-- ---- records of one call, by their nodes
+
+abbrev one : Form → Bool
+one (processor n) = false
+one cache = true
+one memory = true
+one acpi = true
+one pci = true
+one rintc = true
+one domain = true
+one (matrix i t) = false
+one (side n) = false
+
+one-short : (f : Form) (vs : List ℕ) → one f ≡ true → length (calls f vs) ≤ 28
+unfolding calls body width
+one-short (processor n) vs h = never h
+one-short cache vs h = rw (length-call Cache vs) (omega arith)
+one-short memory vs h = rw (length-call Memory vs) (omega arith)
+one-short acpi vs h = rw (length-call Acpi vs) (omega arith)
+one-short pci vs h = rw (length-call Pci vs) (omega arith)
+one-short rintc vs h = rw (length-call Rintc vs) (omega arith)
+one-short domain vs h = rw (length-call Domain vs) (omega arith)
+one-short (matrix i t) vs h = never h
+one-short (side n) vs h = never h
+
+-- n: the node of a record bs
+module _ (f : Form) (bs : List ℕ) (n : Node) (e : n ≡ nodeAt asIs f bs) where
+  pub node-short : one f ≡ true → length (callsOfNode n) ≤ 28
+  unfolding nodeAt
+  node-short h = rw e (one-short f (fieldsWith asIs (layout f) bs) h)
+
+  pub node-laid : (g : ℕ → ℕ) (a b : List ℕ) (p q r : ℕ) → plain (layout f) ≡ true → b ≡ over a p (callsOfNode n) → r ≡ length (callsOfNode n) → q ≡ p + r
+      → Laid a b p (callsIn g f bs) q
+  unfolding nodeAt callsIn
+  node-laid g a b p q r h w l m =
+      let z : callsOfNode n ≡ calls f (fieldsWith g (layout f) bs) = ap callsOfNode e ∙ ap (calls f) (sym (fields-plain g (layout f) bs h)) in
+      record { bytes = w ∙ ap (over a p) z; next = m ∙ ap (λ (x : ℕ). p + x) (l ∙ ap length z) }
+
+-- an initiator has one call and no reference, whatever its handle
+pub initiator-plain : (bs : List ℕ) → (one (formIn initiators bs) ≡ true) × (plain (layout (formIn initiators bs)) ≡ true)
+unfolding formIn layout
+initiator-plain bs = by (eqb (at bs 3) 0)
+  where
+    by : (b : Bool) → (one (pick b acpi pci) ≡ true) × (plain (layout (pick b acpi pci)) ≡ true)
+    by true = (refl, refl)
+    by false = (refl, refl)
 
 -- ---- the lists of a matrix
 

@@ -5,15 +5,15 @@ ghost use mathlib.Core.List.{_∷_, [], _++_};
 ghost use Prim.Native.Nat.{ℕ, _+_, _*_, _-_, _/_, _%_, _≤_, _<_};
 ghost use lib.Dec.{eqb};
 ghost use lib.ListN.{length, replicate};
-ghost use Rattle.format.specs.Bytes.{pick, given, value, part, join, over};
+ghost use Rattle.format.specs.Bytes.{pick, given, value, part, over};
 ghost use Rattle.format.specs.Layout.{asIs, fld, to};
-ghost use Rattle.format.specs.Table.{limit, code};
+ghost use Rattle.format.specs.Table.{limit};
 ghost use Rattle.format.specs.Read.{own, judgeHead};
 ghost use Rattle.format.specs.Build.{fitting, written};
 ghost use Rattle.format.specs.Out.{readOut, outWritten};
-ghost use Rattle.format.specs.Form.{processor, cache, memory, rintc, domain, acpi, pci, matrix, side};
-ghost use Rattle.format.specs.Row.{processors, initiators, matrices, sides, formIn};
-ghost use Rattle.format.specs.Kind.{Resource, Handle, Cell};
+ghost use Rattle.format.specs.Form.{cache};
+ghost use Rattle.format.specs.Row.{processors, matrices, sides, formIn};
+ghost use Rattle.format.specs.Kind as format;
 ghost use Rattle.format.specs.Normal.{call, each, eachSet, settings};
 ghost use Rattle.laws.specs.Offsets.{fieldsAt};
 ghost use Rattle.header.specs.Header.{meant};
@@ -24,8 +24,22 @@ ghost use Rattle.readout.specs.Answers.{measuredAs, shown, numberOf, pla
 use frames::Judged;
 use frames::Refusal;
 use header::Table;
+use header::TableHeader;
+use hmat::Cell;
+use hmat::MemoryProximityDomain;
+use hmat::MemorySideCache;
+use hmat::SystemLocality;
+use hmat::Value;
+use pptt::CacheHandle;
+use pptt::CacheNode;
+use pptt::ProcessorHandle;
+use pptt::ProcessorNode;
+use pptt::Resource;
 use read::Accepted;
 use rows::Row;
+use srat::GenericInitiator;
+use srat::MemoryAffinity;
+use srat::RintcAffinity;
 
 // ---- references
 
@@ -39,31 +53,20 @@ fn ordinal(t: Table, c: &[u8], own: usize, v: usize) -> usize
     frames::number(t, c, t.front(), v)
 }
 
-// ---- numbers
-
-// Writes numbers at their widths, where there is room for the first: a walk that measures is spared the rest.
-fn put_fields(out: &mut [u8], at: usize, ws: &[usize], vs: &[u64])
-    ensures { λ _. ⌜ now (out .exit) ≡ over (now (out .entry)) at (join (now (ws .entry)) (now (vs .entry))) ⌝ }
+// A handle by its ordinal in place of its place.
+fn processor_ordinal(t: Table, c: &[u8], own: usize, h: ProcessorHandle) -> ProcessorHandle
+    ensures { λ r. ⌜ r ≡ record { 0 = ordinalAt (meant t) (now (c .entry)) own (h .0) % 4294967296 } ⌝ }
 {
-    if out.len() <= at {
-        return;
-    }
-    field::put_all(out, at, ws, vs);
+    ProcessorHandle((ordinal(t, c, own, h.0 as usize) % 4294967296) as u32)
+}
+
+fn cache_ordinal(t: Table, c: &[u8], own: usize, h: CacheHandle) -> CacheHandle
+    ensures { λ r. ⌜ r ≡ record { 0 = ordinalAt (meant t) (now (c .entry)) own (h .0) % 4294967296 } ⌝ }
+{
+    CacheHandle((ordinal(t, c, own, h.0 as usize) % 4294967296) as u32)
 }
 
 // ---- lists
-
-// Kind, reference.
-const RESOURCE: [usize; 2] = [1, 4];
-
-// Kind, number.
-const HANDLE: [usize; 2] = [1, 2];
-
-// Kind, index, number.
-const VALUE: [usize; 3] = [1, 1, 4];
-
-// Kind, two indices, number.
-const CELL: [usize; 4] = [1, 1, 1, 2];
 
 // The resources of the processor at own. Returns the place behind them, as all that follow do.
 fn put_resources(
@@ -76,16 +79,14 @@ fn put_resources(
     at: usize,
 ) -> usize
     requires { ⌜ (n ≤ 1000000) × (at ≤ 2000000000000000) ⌝ }
-    ensures { λ r. ⌜ Laid (now (out .entry)) (now (out .exit)) at (each Resource (fieldsAt (ordinalAt (meant t) (now (c .entry)) own) (replicate n (to 1)) (now (body .entry)) 20)) r × (r ≤ at + 5 * n) ⌝ }
+    ensures { λ r. ⌜ Laid (now (out .entry)) (now (out .exit)) at (each format.Resource (fieldsAt (ordinalAt (meant t) (now (c .entry)) own) (replicate n (to 1)) (now (body .entry)) 20)) r × (r ≤ at + 5 * n) ⌝ }
 {
-    let mut from = 20;
     let mut p = at;
     let mut i = 0;
     while i < n {
-        let k = ordinal(t, c, own, field::get_u32(body, from) as usize);
-        put_fields(out, p, &RESOURCE, &[17, k as u64]);
-        from += 4;
-        p += 5;
+        let cache = cache_ordinal(t, c, own, ProcessorNode::resource(body, 0, i as u32));
+        let resource = Resource { cache };
+        p += resource.put_body(out, p);
         i += 1;
     }
     p
@@ -94,15 +95,12 @@ fn put_resources(
 // The handles of a side cache.
 fn put_handles(body: &[u8], n: usize, out: &mut [u8], at: usize) -> usize
     requires { ⌜ (n ≤ 1000000) × (at ≤ 2000000000000000) ⌝ }
-    ensures { λ r. ⌜ Laid (now (out .entry)) (now (out .exit)) at (each Handle (fieldsAt asIs (replicate n (fld 2)) (now (body .entry)) 32)) r × (r ≤ at + 3 * n) ⌝ }
+    ensures { λ r. ⌜ Laid (now (out .entry)) (now (out .exit)) at (each format.Handle (fieldsAt asIs (replicate n (fld 2)) (now (body .entry)) 32)) r × (r ≤ at + 3 * n) ⌝ }
 {
-    let mut from = 32;
     let mut p = at;
     let mut i = 0;
     while i < n {
-        put_fields(out, p, &HANDLE, &[54, field::get_u16(body, from) as u64]);
-        from += 2;
-        p += 3;
+        p += MemorySideCache::smbios_handle(body, 0, i).put_body(out, p);
         i += 1;
     }
     p
@@ -113,11 +111,14 @@ fn put_value(kind: u8, j: usize, v: u32, out: &mut [u8], at: usize) -> usize
     requires { ⌜ at ≤ 3000000000000000 ⌝ }
     ensures { λ r. ⌜ Laid (now (out .entry)) (now (out .exit)) at (pick (eqb v 0) [] (setting kind j v)) r × (r ≤ at + 6) ⌝ }
 {
-    if v == 0 {
+    if v == Value::UNSET {
         return at;
     }
-    put_fields(out, at, &VALUE, &[kind as u64, j as u64, v as u64]);
-    at + 6
+    let x = Value {
+        idx: (j % 256) as u8,
+        value: v,
+    };
+    at + x.put_body(kind, out, at)
 }
 
 // The numbers of a matrix's initiators or targets.
@@ -130,38 +131,26 @@ fn put_values(kind: u8, body: &[u8], start: usize, n: usize, out: &mut [u8], at:
     let mut i = 0;
     while i < n {
         p = put_value(kind, i, field::get_u32(body, from), out, p);
-        from += 4;
+        from += Value::LEN;
         i += 1;
     }
     p
 }
 
-// A cell, byte by byte where all of it has room: a matrix has up to 65,025 of them.
-fn lay_cell(i: usize, j: usize, v: u16, out: &mut [u8], at: usize)
-    requires { ⌜ at ≤ 3000000000000000 ⌝ }
-    ensures { λ _. ⌜ now (out .exit) ≡ over (now (out .entry)) at (call Cell (i ∷ j ∷ v ∷ [])) ⌝ }
-{
-    if out.len() < at + 5 {
-        put_fields(out, at, &CELL, &[52, i as u64, j as u64, v as u64]);
-        return;
-    }
-    out[at] = 52;
-    out[at + 1] = (i % 256) as u8;
-    out[at + 2] = (j % 256) as u8;
-    out[at + 3] = (v % 256) as u8;
-    out[at + 4] = (v / 256) as u8;
-}
-
 // A cell, unless it is unset.
 fn put_cell(i: usize, j: usize, v: u16, out: &mut [u8], at: usize) -> usize
     requires { ⌜ at ≤ 3000000000000000 ⌝ }
-    ensures { λ r. ⌜ Laid (now (out .entry)) (now (out .exit)) at (pick (eqb v 65535) [] (call Cell (i ∷ j ∷ v ∷ []))) r × (r ≤ at + 5) ⌝ }
+    ensures { λ r. ⌜ Laid (now (out .entry)) (now (out .exit)) at (pick (eqb v 65535) [] (call format.Cell (i ∷ j ∷ v ∷ []))) r × (r ≤ at + 5) ⌝ }
 {
-    if v == 65535 {
+    if v == SystemLocality::UNREACHABLE_DOMAIN {
         return at;
     }
-    lay_cell(i, j, v, out, at);
-    at + 5
+    let cell = Cell {
+        initiator_idx: (i % 256) as u8,
+        target_idx: (j % 256) as u8,
+        value: v,
+    };
+    at + cell.put_body(out, at)
 }
 
 // The row of the cell behind that of row i and column j, of t columns.
@@ -189,7 +178,7 @@ fn next_column(j: usize, t: usize) -> usize
 // The cells of a matrix of t targets, row by row.
 fn put_cells(body: &[u8], start: usize, t: usize, n: usize, out: &mut [u8], at: usize) -> usize
     requires { ⌜ (0 < n → 0 < t) × (start ≤ 1000000) × (n ≤ 1000000) × (at ≤ 2000000000000000) ⌝ }
-    ensures { λ r. ⌜ Laid (now (out .entry)) (now (out .exit)) at (eachSet (λ e v. call Cell (e / t ∷ e % t ∷ v ∷ [])) 65535 0 (fieldsAt asIs (replicate n (fld 2)) (now (body .entry)) start)) r × (r ≤ at + 5 * n) ⌝ }
+    ensures { λ r. ⌜ Laid (now (out .entry)) (now (out .exit)) at (eachSet (λ e v. call format.Cell (e / t ∷ e % t ∷ v ∷ [])) 65535 0 (fieldsAt asIs (replicate n (fld 2)) (now (body .entry)) start)) r × (r ≤ at + 5 * n) ⌝ }
 {
     let mut from = start;
     let mut p = at;
@@ -200,7 +189,7 @@ fn put_cells(body: &[u8], start: usize, t: usize, n: usize, out: &mut [u8], at: 
         p = put_cell(i, j, field::get_u16(body, from), out, p);
         i = next_row(i, j, t);
         j = next_column(j, t);
-        from += 2;
+        from += Cell::LEN;
         e += 1;
     }
     p
@@ -208,59 +197,18 @@ fn put_cells(body: &[u8], start: usize, t: usize, n: usize, out: &mut [u8], at: 
 
 // ---- records: body is the bytes of one, own its place in a table's own bytes c
 
-// Kind, flags, parent, id.
-const PROCESSOR: [usize; 4] = [1, 4, 4, 4];
-
-// Kind, flags, next level, size, sets, associativity, attributes, line size, id.
-const CACHE: [usize; 9] = [1, 1, 4, 4, 4, 1, 1, 2, 4];
-
-// Kind, domain, base, length, flags.
-const MEMORY: [usize; 5] = [1, 4, 8, 8, 1];
-
-// Kind, domain, hid, uid, flags.
-const ACPI: [usize; 5] = [1, 4, 8, 4, 1];
-
-// Kind, domain, segment, bus, device, function, flags.
-const PCI: [usize; 7] = [1, 4, 2, 1, 1, 1, 1];
-
-// Kind, uid, flags, clock domain.
-const RINTC: [usize; 4] = [1, 4, 1, 4];
-
-// Kind, initiator, memory.
-const DOMAIN: [usize; 3] = [1, 4, 4];
-
-// Kind, flags, data type, transfer size, unit, I, T.
-const MATRIX: [usize; 7] = [1, 1, 1, 1, 8, 1, 1];
-
-// Kind, domain, size, attributes.
-const SIDE: [usize; 4] = [1, 4, 8, 4];
-
-// How many resources a processor's record has room for.
-fn resources(len: usize) -> usize
-    ensures { λ r. ⌜ r ≡ (len - 20) / 4 ⌝ }
-{
-    if len < 20 {
-        return 0;
-    }
-    (len - 20) / 4
-}
-
 fn put_processor(t: Table, c: &[u8], own: usize, body: &[u8], out: &mut [u8], at: usize) -> usize
     requires { ⌜ (length (now body) ≤ limit) × (at ≤ 1500000000000000) ⌝ }
     ensures { λ r. ⌜ Laid (now (out .entry)) (now (out .exit)) at (callsIn (ordinalAt (meant t) (now (c .entry)) own) (formIn processors (now (body .entry))) (now (body .entry))) r × (r ≤ at + 2000000) ⌝ }
 {
+    let n = ProcessorNode::resources_in(body.len());
     if out.len() <= at {
-        return at + 13 + 5 * resources(body.len());
+        return at + (1 + ProcessorNode::BODY) + (1 + Resource::BODY) * n;
     }
-    let parent = ordinal(t, c, own, field::get_u32(body, 8) as usize);
-    let vs = [
-        16,
-        field::get_u32(body, 4) as u64,
-        parent as u64,
-        field::get_u32(body, 12) as u64,
-    ];
-    put_fields(out, at, &PROCESSOR, &vs);
-    put_resources(t, c, own, body, resources(body.len()), out, at + 13)
+    let node = ProcessorNode::get(body, 0);
+    let parent = processor_ordinal(t, c, own, node.parent);
+    let p = at + node.named(parent).put_body(out, at);
+    put_resources(t, c, own, body, n, out, p)
 }
 
 fn put_cache(t: Table, c: &[u8], own: usize, body: &[u8], out: &mut [u8], at: usize) -> usize
@@ -268,108 +216,11 @@ fn put_cache(t: Table, c: &[u8], own: usize, body: &[u8], out: &mut [u8], at: us
     ensures { λ r. ⌜ Laid (now (out .entry)) (now (out .exit)) at (callsIn (ordinalAt (meant t) (now (c .entry)) own) cache (now (body .entry))) r × (r ≤ at + 28) ⌝ }
 {
     if out.len() <= at {
-        return at + 22;
+        return at + (1 + CacheNode::BODY);
     }
-    let next = ordinal(t, c, own, field::get_u32(body, 8) as usize);
-    let vs = [
-        18,
-        field::get_u32(body, 4) as u64,
-        next as u64,
-        field::get_u32(body, 12) as u64,
-        field::get_u32(body, 16) as u64,
-        field::get_u8(body, 20) as u64,
-        field::get_u8(body, 21) as u64,
-        field::get_u16(body, 22) as u64,
-        field::get_u32(body, 24) as u64,
-    ];
-    put_fields(out, at, &CACHE, &vs);
-    at + 22
-}
-
-fn put_memory(body: &[u8], out: &mut [u8], at: usize) -> usize
-    requires { ⌜ at ≤ 1500000000000000 ⌝ }
-    ensures { λ r. ⌜ ((g : ℕ → ℕ) → Laid (now (out .entry)) (now (out .exit)) at (callsIn g memory (now (body .entry))) r) × (r ≤ at + 28) ⌝ }
-{
-    let vs = [
-        32,
-        field::get_u32(body, 2) as u64,
-        field::get_u64(body, 8),
-        field::get_u64(body, 16),
-        field::get_u32(body, 28) as u64,
-    ];
-    put_fields(out, at, &MEMORY, &vs);
-    at + 22
-}
-
-fn put_acpi(body: &[u8], out: &mut [u8], at: usize) -> usize
-    requires { ⌜ at ≤ 1500000000000000 ⌝ }
-    ensures { λ r. ⌜ ((g : ℕ → ℕ) → Laid (now (out .entry)) (now (out .exit)) at (callsIn g acpi (now (body .entry))) r) × (r ≤ at + 28) ⌝ }
-{
-    let vs = [
-        33,
-        field::get_u32(body, 4) as u64,
-        field::get_u64(body, 8),
-        field::get_u32(body, 16) as u64,
-        field::get_u32(body, 24) as u64,
-    ];
-    put_fields(out, at, &ACPI, &vs);
-    at + 18
-}
-
-fn put_pci(body: &[u8], out: &mut [u8], at: usize) -> usize
-    requires { ⌜ at ≤ 1500000000000000 ⌝ }
-    ensures { λ r. ⌜ ((g : ℕ → ℕ) → Laid (now (out .entry)) (now (out .exit)) at (callsIn g pci (now (body .entry))) r) × (r ≤ at + 28) ⌝ }
-{
-    let devfn = field::get_u8(body, 11) as u64;
-    let vs = [
-        34,
-        field::get_u32(body, 4) as u64,
-        field::get_u16(body, 8) as u64,
-        field::get_u8(body, 10) as u64,
-        devfn / 8,
-        devfn % 8,
-        field::get_u32(body, 24) as u64,
-    ];
-    put_fields(out, at, &PCI, &vs);
-    at + 11
-}
-
-// An initiator by its handle: 0 is ACPI, anything else PCI.
-fn put_initiator(body: &[u8], out: &mut [u8], at: usize) -> usize
-    requires { ⌜ at ≤ 1500000000000000 ⌝ }
-    ensures { λ r. ⌜ ((g : ℕ → ℕ) → Laid (now (out .entry)) (now (out .exit)) at (callsIn g (formIn initiators (now (body .entry))) (now (body .entry))) r) × (r ≤ at + 28) ⌝ }
-{
-    if field::get_u8(body, 3) == 0 {
-        return put_acpi(body, out, at);
-    }
-    put_pci(body, out, at)
-}
-
-fn put_rintc(body: &[u8], out: &mut [u8], at: usize) -> usize
-    requires { ⌜ at ≤ 1500000000000000 ⌝ }
-    ensures { λ r. ⌜ ((g : ℕ → ℕ) → Laid (now (out .entry)) (now (out .exit)) at (callsIn g rintc (now (body .entry))) r) × (r ≤ at + 28) ⌝ }
-{
-    let vs = [
-        35,
-        field::get_u32(body, 4) as u64,
-        field::get_u32(body, 8) as u64,
-        field::get_u32(body, 12) as u64,
-    ];
-    put_fields(out, at, &RINTC, &vs);
-    at + 10
-}
-
-fn put_domain(body: &[u8], out: &mut [u8], at: usize) -> usize
-    requires { ⌜ at ≤ 1500000000000000 ⌝ }
-    ensures { λ r. ⌜ ((g : ℕ → ℕ) → Laid (now (out .entry)) (now (out .exit)) at (callsIn g domain (now (body .entry))) r) × (r ≤ at + 28) ⌝ }
-{
-    let vs = [
-        48,
-        field::get_u32(body, 12) as u64,
-        field::get_u32(body, 16) as u64,
-    ];
-    put_fields(out, at, &DOMAIN, &vs);
-    at + 9
+    let node = CacheNode::get(body, 0);
+    let next_level = cache_ordinal(t, c, own, node.next_level);
+    at + node.named(next_level).put_body(out, at)
 }
 
 // The lists of a matrix of i initiators and t targets: only what is not unset.
@@ -377,43 +228,36 @@ fn put_settings(body: &[u8], i: usize, t: usize, out: &mut [u8], at: usize) -> u
     requires { ⌜ (i ≤ 255) × (t ≤ 255) × (at ≤ 1700000000000000) ⌝ }
     ensures { λ r. ⌜ ((g : ℕ → ℕ) → Laid (now (out .entry)) (now (out .exit)) at (settings i t (fieldsAt g (replicate (i + t) (fld 4) ++ replicate (i * t) (fld 2)) (now (body .entry)) 32)) r) × (r ≤ at + 1900000) ⌝ }
 {
-    let targets = 32 + 4 * i;
-    let p = put_values(50, body, 32, i, out, at);
-    let q = put_values(51, body, targets, t, out, p);
-    put_cells(body, targets + 4 * t, t, i * t, out, q)
+    let initiators = SystemLocality::initiator_place(0, 0);
+    let targets = SystemLocality::target_place(0, i, 0);
+    let cells = SystemLocality::target_place(0, i, t);
+    let p = put_values(Value::INITIATOR_KIND, body, initiators, i, out, at);
+    let q = put_values(Value::TARGET_KIND, body, targets, t, out, p);
+    put_cells(body, cells, t, i * t, out, q)
 }
 
 fn put_matrix(body: &[u8], out: &mut [u8], at: usize) -> usize
     requires { ⌜ (value (part (now body) 12 4) ≤ 255) × (value (part (now body) 16 4) ≤ 255) × (at ≤ 1500000000000000) ⌝ }
     ensures { λ r. ⌜ ((g : ℕ → ℕ) → Laid (now (out .entry)) (now (out .exit)) at (callsIn g (formIn matrices (now (body .entry))) (now (body .entry))) r) × (r ≤ at + 2000000) ⌝ }
 {
-    let i = field::get_u32(body, 12);
-    let t = field::get_u32(body, 16);
-    let vs = [
-        49,
-        field::get_u8(body, 8) as u64,
-        field::get_u8(body, 9) as u64,
-        field::get_u8(body, 10) as u64,
-        field::get_u64(body, 24),
-        i as u64,
-        t as u64,
-    ];
-    put_fields(out, at, &MATRIX, &vs);
-    put_settings(body, i as usize, t as usize, out, at + 14)
+    let node = SystemLocality::get(body, 0);
+    let p = at + node.put_body(out, at);
+    put_settings(
+        body,
+        node.initiators as usize,
+        node.targets as usize,
+        out,
+        p,
+    )
 }
 
 fn put_side(body: &[u8], out: &mut [u8], at: usize) -> usize
     requires { ⌜ at ≤ 1500000000000000 ⌝ }
     ensures { λ r. ⌜ ((g : ℕ → ℕ) → Laid (now (out .entry)) (now (out .exit)) at (callsIn g (formIn sides (now (body .entry))) (now (body .entry))) r) × (r ≤ at + 2000000) ⌝ }
 {
-    let vs = [
-        53,
-        field::get_u32(body, 8) as u64,
-        field::get_u64(body, 16),
-        field::get_u32(body, 24) as u64,
-    ];
-    put_fields(out, at, &SIDE, &vs);
-    put_handles(body, field::get_u16(body, 30) as usize, out, at + 17)
+    let node = MemorySideCache::get(body, 0);
+    let p = at + node.put_body(out, at);
+    put_handles(body, node.smbios_handles as usize, out, p)
 }
 
 // Whether a row is there.
@@ -449,10 +293,10 @@ fn put_record(
     match row {
         Row::Processors => put_processor(t, c, own, body, out, at),
         Row::Caches => put_cache(t, c, own, body, out, at),
-        Row::Memories => put_memory(body, out, at),
-        Row::Initiators => put_initiator(body, out, at),
-        Row::Rintcs => put_rintc(body, out, at),
-        Row::Domains => put_domain(body, out, at),
+        Row::Memories => at + MemoryAffinity::get(body, 0).put_body(out, at),
+        Row::Initiators => at + GenericInitiator::get(body, 0).put_body(out, at),
+        Row::Rintcs => at + RintcAffinity::get(body, 0).put_body(out, at),
+        Row::Domains => at + MemoryProximityDomain::get(body, 0).put_body(out, at),
         Row::Matrices => put_matrix(body, out, at),
         Row::Sides => put_side(body, out, at),
         Row::Unknown => at,
@@ -460,20 +304,6 @@ fn put_record(
 }
 
 // ---- answers
-
-// Kind, table.
-const HEAD: [usize; 2] = [1, 1];
-
-// The table's number in a head.
-fn code(t: Table) -> u64
-    ensures { λ r. ⌜ r ≡ code (meant t) ⌝ }
-{
-    match t {
-        Table::Pptt => 0,
-        Table::Srat => 1,
-        Table::Hmat => 2,
-    }
-}
 
 // The length of a recipe, or the place of the first unknown record.
 enum Measured {
@@ -532,7 +362,7 @@ fn put_records(t: Table, revision: u8, c: &[u8], out: &mut [u8]) -> Measured
     ensures { λ _. ⌜ now (out .exit) ≡ over (now (out .entry)) 28 (callsAt (meant t) revision (now (c .entry))) ⌝ }
 {
     let mut p = t.front();
-    let mut q = 28;
+    let mut q = 1 + TableHeader::BODY;
     while p < c.len() {
         let s = field::rest(c, p);
         if !frames::framed(t, s) {
@@ -558,9 +388,8 @@ fn put_recipe(t: Table, table: &[u8], n: usize, out: &mut [u8]) -> ReadOut
     if out.len() < n {
         return ReadOut::Room(n);
     }
-    field::put_all(out, 0, &HEAD, &[1, code(t)]);
-    field::copy(out, 2, &table[10..36]);
-    put_records(t, field::get_u8(table, 8), frames::own(table), out);
+    TableHeader::put_body(t, table, out);
+    put_records(t, TableHeader::revision_in(table), frames::own(table), out);
     ReadOut::Written(n)
 }
 
@@ -570,7 +399,7 @@ fn read_as(t: Table, table: &[u8], out: &mut [u8]) -> ReadOut
     ensures { λ r. ⌜ shown r ≡ outAs (meant t) (now (table .entry)) (length (now (out .entry))) ⌝ }
     ensures { λ _. ⌜ now (out .exit) ≡ written (outAs (meant t) (now (table .entry)) (length (now (out .entry)))) (recipeAs (meant t) (now (table .entry))) (now (out .entry)) ⌝ }
 {
-    let revision = field::get_u8(table, 8);
+    let revision = TableHeader::revision_in(table);
     if revision != t.revision() {
         return ReadOut::Revision;
     }

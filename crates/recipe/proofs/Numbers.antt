@@ -1,14 +1,21 @@
--- A byte that is none of a table's kind numbers names nothing there: no test on the way is passed.
-use mathlib.Core.Path.{_≡_}
-use Prim.Native.Nat.{ℕ, suc, _*_, _≤_, _<_}
+-- A byte that is none of a table's kind numbers names nothing there: no test on the way is passed. Bodies and matrices are short.
+use mathlib.Core.Path.{_≡_, sym, ap, _∙_}
+use Prim.Native.Nat.{ℕ, suc, _≤_, _<_}
+use mathlib.Core.List.{List}
 use mathlib.Core.Bool.{Bool, true, false, not}
 use mathlib.Core.Option.{none}
 use native.Mathlib.Nat.{mul-le-mul}
 use native.Mathlib.Omega.{arith}
 use borrow.Author.Tests.{ne-eqb, not-true, not-false}
+use Rattle.format.specs.Bytes.{at}
 use Rattle.format.specs.Table.{Table, pptt, srat, hmat}
-use Rattle.format.specs.Layout.{width}
+use Rattle.format.specs.Layout.{asIs, width, fields}
+use Rattle.format.specs.Form.{size}
 use Rattle.format.specs.Kind.{Kind, Processor, Resource, Cache, Memory, Acpi, Pci, Rintc, Domain, Matrix, Initiator, Target, Cell, Side, Handle, kindOf, body}
+use Rattle.laws.proofs.Bytes.{value-byte}
+use Rattle.laws.proofs.Offsets.{fields-at}
+use Rattle.hmat.specs.declared.SystemLocality.{SystemLocality}
+use Rattle.hmat.specs.Hmat.{matrixForm, matrixCall}
 
 abbrev pub first : Table → ℕ
 first pptt = 16
@@ -42,12 +49,15 @@ passes {r} e h = rw e at (not-false r h)
 pub fails : {r x : Bool} → r ≡ x → not r ≡ true → x ≡ false
 fails {r} e h = rw e at (not-true r h)
 
--- the cells of a matrix with counts of a byte each
-pub cells : (i t : ℕ) → i < 256 → t < 256 → i * t ≤ 65025
-cells i t h l =
-    let a : i ≤ 255 = omega arith in
-    let b : t ≤ 255 = omega arith in
-    mul-le-mul a b
+-- a matrix of a recipe's record is short: its counts are a byte each
+pub matrix-short : (m : SystemLocality) (bs : List ℕ) → matrixCall m ≡ fields (body Matrix) bs → at bs 11 < 256 → at bs 12 < 256 → size (matrixForm m) ≤ 132122
+unfolding body
+matrix-short m bs e h l =
+    let i : m .initiators ≡ at bs 11 = ap (λ vs. at vs 4) (e ∙ fields-at asIs (body Matrix) bs 0) ∙ sym (value-byte bs 11) in
+    let t : m .targets ≡ at bs 12 = ap (λ vs. at vs 5) (e ∙ fields-at asIs (body Matrix) bs 0) ∙ sym (value-byte bs 12) in
+    let a : m .initiators ≤ 255 = omega arith in
+    let b : m .targets ≤ 255 = omega arith in
+    omega (arith, mul-le-mul a b)
 
 -- a body is short
 pub body-short : (k : Kind) → width (body k) ≤ 21

@@ -19,7 +19,6 @@ use Rattle.recipe.specs.declared.State.{State}
 use Rattle.recipe.specs.Machine.{stateOf, none-made, nodeTypes, typesOf, names, Begins, refers, Finds}
 use Rattle.format.specs.Kind.{Kind, Processor, Resource, Cache, Memory, Acpi, Pci, Rintc, Domain, Matrix, Initiator, Target, Cell, Side, Handle, kindOf}
 use Rattle.laws.proofs.Builds.{kind-home}
-use Rattle.header.specs.declared.Table as named
 
 length-types : (ns : List Node) → length (typesOf ns) ≡ length ns
 unfolding typesOf

@@ -11,22 +11,24 @@ use lib.Dec.{eqb, leb, ltb}
 use borrow.Author.Tests.{le-ltb}
 use denote.Enum.Declared.{tagOf}
 use types.Run.{OneOf, miss}
-use Rattle.format.specs.Bytes.{pick, both, all, firstOf, Answer, refused, given, unless, value, part}
-use Rattle.format.specs.Layout.{asIs, fields, refsGood}
+use Rattle.format.specs.Bytes.{pick, both, all, firstOf, Answer, refused, given, unless, at}
+use Rattle.format.specs.Layout.{fields, refsGood}
 use Rattle.format.specs.Table.{Table, front, limit}
 use Rattle.format.specs.Form.{Form, processor, cache, memory, acpi, pci, rintc, domain, matrix, side, size, ranges}
 use Rattle.format.specs.Node.{Node, node, sizes, starts, atOrdinal}
 use Rattle.format.specs.Kind.{Kind, Processor, Resource, Cache, Handle, body}
-use Rattle.format.specs.Recipe.{Step as Asked, Newest, aProcessor, aMatrix, aSide, other, newest, newestAs, resource, handle, setting, stray, step, fault}
-use Rattle.laws.proofs.Offsets.{fields-at}
+use Rattle.format.specs.Recipe.{Step as Asked, Newest, aProcessor, aMatrix, aSide, other, newest, newestAs, resource, handle, setting, stray, makes, step, fault}
+use Rattle.format.specs.Field.{badIn, badField}
+use Rattle.laws.proofs.Fits.{second}
+use Rattle.laws.proofs.Fields.{all-bad, good-fields}
 use Rattle.header.specs.Header.{meant}
 use Rattle.recipe.specs.declared.Newest as kept
 use Rattle.recipe.specs.declared.Newest.the-variants as is
 use Rattle.recipe.specs.declared.State.{State}
-use Rattle.recipe.specs.declared.Refusal.the-variants.{TooLong}
+use Rattle.recipe.specs.declared.Refusal.the-variants.{BadField, TooLong}
 use Rattle.recipe.specs.declared.Step.{Step}
 use Rattle.recipe.specs.declared.Step.the-variants.{Next, Refused}
-use Rattle.recipe.specs.Machine.{newestKept, stateOf, Sound, grown, nodeTypes, refers, Finds, stepped, turn, Begins}
+use Rattle.recipe.specs.Machine.{newestKept, stateOf, Sound, grown, madeBy, nodeTypes, refers, Finds, stepped, turn, Begins}
 use Rattle.recipe.proofs.Newest.{the-type}
 use Rattle.recipe.proofs.Refers.{names-new, names-joined, found-or-none, found-named}
 
@@ -70,12 +72,26 @@ grown-turn t ns ms p s n by w e a b c = rw (e, a, b, c) (go (ltb limit (front t 
     go false = refl
 
 -- by a new node
-pub made-turn : (t : Table) (ns : List Node) (f : Form) (vs : List ℕ) (p : ℕ) (s : State) → s ≡ stateOf t ns
+made-turn : (t : Table) (ns : List Node) (f : Form) (vs : List ℕ) (p : ℕ) (s : State) → s ≡ stateOf t ns
     → stepped p (grown s (s .nodes + 1) (size f) (newestKept (newestAs f vs ns)))
     ≡ pick (ltb limit (front t + sizes (node f vs ∷ ns))) (refused 8 p) (given (stateOf t (node f vs ∷ ns)))
 unfolding sizes
 made-turn t ns f vs p s e =
     grown-turn t ns (node f vs ∷ ns) p s (s .nodes + 1) (size f) _ e (rw e (add-one (length ns))) (add-assoc (front t) (sizes ns) (size f)) refl
+
+-- by a new node without references, of which code asks for the first bad field; us: its fields
+module _ (k : Kind) (f : Form) (bs us : List ℕ) (same : (ns : List Node) → step k (fields (body k) bs) ns ≡ makes (ranges f (fields (body k) bs)) (node f us) ns)
+    (free : (ok : ℕ → ℕ → Bool) (vs : List ℕ) → refsGood ok (body k) vs ≡ true) where
+  pub plain-turn : (t : Table) (ns : List Node) (p : ℕ) (s : State) (bad : ℕ) → bad ≡ badField (node f (fields (body k) bs)) → s ≡ stateOf t ns
+      → stepped p (madeBy s bad (size f) (newestKept (newestAs f us ns))) ≡ turn t ns k bs p
+  plain-turn t ns p s bad h e =
+      let vs : List ℕ = fields (body k) bs in
+      let a : turn t ns k bs p ≡ judged t k vs p (makes (ranges f vs) (node f us) ns) = turn-judged t ns k bs p ∙ ap (judged t k vs p) (same ns) in
+      sym (a ∙ rw (free, good-fields (node f vs), ← h) (go (eqb bad 0) _ _ (made-turn t ns f us p s e)))
+    where
+      go : (b : Bool) (x : Step) (y : Answer State) → stepped p x ≡ y → pick (not b) (refused 5 p) y ≡ stepped p (pick b x (Refused BadField))
+      go true x y q = sym q
+      go false x y q = refl
 
 -- ---- references
 
@@ -84,18 +100,18 @@ both-end true = refl
 both-end false = refl
 
 -- the one reference of a body
-module _ (ok : ℕ → ℕ → Bool) (bs : List ℕ) where
-  processor-refs : refsGood ok (body Processor) (fields (body Processor) bs) ≡ pick (eqb (value (part bs 4 4)) 0) true (ok (value (part bs 4 4)) 0)
+module _ (ok : ℕ → ℕ → Bool) (vs : List ℕ) where
+  processor-refs : refsGood ok (body Processor) vs ≡ pick (eqb (at vs 1) 0) true (ok (at vs 1) 0)
   unfolding body refsGood
-  processor-refs = rw (fields-at asIs (body Processor) bs 0) (both-end _)
+  processor-refs = rw (second vs) (both-end _)
 
-  cache-refs : refsGood ok (body Cache) (fields (body Cache) bs) ≡ pick (eqb (value (part bs 1 4)) 0) true (ok (value (part bs 1 4)) 1)
+  cache-refs : refsGood ok (body Cache) vs ≡ pick (eqb (at vs 1) 0) true (ok (at vs 1) 1)
   unfolding body refsGood
-  cache-refs = rw (fields-at asIs (body Cache) bs 0) (both-end _)
+  cache-refs = rw (second vs) (both-end _)
 
-  resource-refs : refsGood ok (body Resource) (fields (body Resource) bs) ≡ ok (value (part bs 0 4)) 1
+  resource-refs : refsGood ok (body Resource) vs ≡ ok (at vs 0) 1
   unfolding body refsGood
-  resource-refs = rw (fields-at asIs (body Resource) bs 0) (both-end _)
+  resource-refs = both-end _
 
 -- new nodes that have one
 module _ (t : Table) (ns : List Node) (s : State) (e : s ≡ stateOf t ns) (r : List ℕ) (b : Begins r t ns) (p : ℕ) (bs : List ℕ) (f : ℕ) where
@@ -103,20 +119,26 @@ module _ (t : Table) (ns : List Node) (s : State) (e : s ≡ stateOf t ns) (r : 
   referred to ty = pick (eqb to 0) true (pick (ltb to (s .nodes + 1)) (eqb f ty) false)
 
   pub processor-turn : Finds (nodeTypes (meant (s .table)) r) (refers Processor bs) f
-      → turn t ns Processor bs p ≡ pick (not (referred (value (part bs 4 4)) 0)) (refused 6 p) (stepped p (grown s (s .nodes + 1) 20 (is.Processor 0)))
+      → turn t ns Processor bs p ≡ pick (not (referred (refers Processor bs) 0)) (refused 6 p) (stepped p (grown s (s .nodes + 1) 20 (is.Processor 0)))
   unfolding step
   processor-turn found =
       turn-judged t ns Processor bs p
-      ∙ rw (processor-refs (atOrdinal (starts t ns)) bs, ← found-or-none (nodeTypes (meant (s .table)) r) (s .nodes + 1) (value (part bs 4 4)) 0 f found, names-new r t ns s e b (value (part bs 4 4)) 0, made-turn t ns (processor 0) (fields (body Processor) bs) p s e)
+      ∙ rw (processor-refs (atOrdinal (starts t ns)) (fields (body Processor) bs), ← found-or-none (nodeTypes (meant (s .table)) r) (s .nodes + 1) (refers Processor bs) 0 f found, names-new r t ns s e b (refers Processor bs) 0, made-turn t ns (processor 0) (fields (body Processor) bs) p s e)
 
-  pub cache-turn : Finds (nodeTypes (meant (s .table)) r) (refers Cache bs) f
+  pub cache-turn : (bad : ℕ) → bad ≡ badField (node cache (fields (body Cache) bs)) → Finds (nodeTypes (meant (s .table)) r) (refers Cache bs) f
       → turn t ns Cache bs p
-      ≡ pick (not (all (ranges cache (fields (body Cache) bs)))) (refused 5 p)
-      (pick (not (referred (value (part bs 1 4)) 1)) (refused 6 p) (stepped p (grown s (s .nodes + 1) 28 is.Other)))
+      ≡ pick (not (eqb bad 0)) (refused 5 p) (pick (not (referred (refers Cache bs) 1)) (refused 6 p) (stepped p (grown s (s .nodes + 1) 28 is.Other)))
   unfolding step
-  cache-turn found =
+  cache-turn bad h found =
       turn-judged t ns Cache bs p
-      ∙ rw (cache-refs (atOrdinal (starts t ns)) bs, ← found-or-none (nodeTypes (meant (s .table)) r) (s .nodes + 1) (value (part bs 1 4)) 1 f found, names-new r t ns s e b (value (part bs 1 4)) 1, made-turn t ns cache (fields (body Cache) bs) p s e)
+      ∙ rw (
+        good-fields (node cache (fields (body Cache) bs)),
+        ← h,
+        cache-refs (atOrdinal (starts t ns)) (fields (body Cache) bs),
+        ← found-or-none (nodeTypes (meant (s .table)) r) (s .nodes + 1) (refers Cache bs) 1 f found,
+        names-new r t ns s e b (refers Cache bs) 1,
+        made-turn t ns cache (fields (body Cache) bs) p s e,
+      )
 
 -- ---- the newest node
 
@@ -186,7 +208,7 @@ module _ (t : Table) (s : State) (p : ℕ) (bs : List ℕ) where
     -- the answer to a resource behind a processor with n of them
     abbrev withResource : Answer State
     withResource =
-        pick (not (pick (eqb (value (part bs 0 4)) 0) false (pick (ltb (value (part bs 0 4)) (s .nodes)) (eqb f 1) false))) (refused 6 p)
+        pick (not (pick (eqb (refers Resource bs) 0) false (pick (ltb (refers Resource bs) (s .nodes)) (eqb f 1) false))) (refused 6 p)
         (pick (leb 58 n) (refused 7 p) (stepped p (grown s (s .nodes) 4 (is.Processor (n + 1)))))
 
     resource-at : (us : List ℕ) (ms : List Node) → s ≡ stateOf t (node (processor n) us ∷ ms) → Begins r t (node (processor n) us ∷ ms)
@@ -197,9 +219,9 @@ module _ (t : Table) (s : State) (p : ℕ) (bs : List ℕ) where
         let more : List Node = node (processor (suc n)) (us ++ fields (body Resource) bs) ∷ ms in
         turn-judged t ns Resource bs p
         ∙ rw (
-          resource-refs (atOrdinal (starts t ms)) bs,
-          ← found-named (nodeTypes (meant (s .table)) r) (s .nodes) (value (part bs 0 4)) 1 f found,
-          names-joined r t (node (processor n) us) ms s e b (value (part bs 0 4)) 1,
+          resource-refs (atOrdinal (starts t ms)) (fields (body Resource) bs),
+          ← found-named (nodeTypes (meant (s .table)) r) (s .nodes) (refers Resource bs) 1 f found,
+          names-joined r t (node (processor n) us) ms s e b (refers Resource bs) 1,
           grown-turn t ns more p s (s .nodes) 4 (is.Processor (n + 1)) e (rw e refl) (omega arith) (ap is.Processor (add-one n)),
         )
 
@@ -234,3 +256,8 @@ module _ (t : Table) (s : State) (p : ℕ) (bs : List ℕ) where
 
     pub set-turn : (ns : List Node) → s ≡ stateOf t ns → s .newest ≡ is.Matrix i j → turn t ns k bs p ≡ pick (not (all (tests i j))) (refused 5 p) (given s)
     set-turn ns e h = let (us, ms, q) = parted t ns s (is.Matrix i j) e h in rw q (set-at us ms (rw q at e))
+
+    -- where code asks for the first bad field
+    pub set-asked : (bad : ℕ) → bad ≡ badIn k (tests i j) → (ns : List Node) → s ≡ stateOf t ns → s .newest ≡ is.Matrix i j
+        → turn t ns k bs p ≡ pick (not (eqb bad 0)) (refused 5 p) (given s)
+    set-asked bad q ns e h = set-turn ns e h ∙ rw (all-bad 1 (body k) (tests i j) (omega arith), ← q)

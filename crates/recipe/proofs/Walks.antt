@@ -27,6 +27,7 @@ use Rattle.laws.proofs.Calls.{cut-skip}
 use Rattle.laws.proofs.Links.{size-pos}
 use Rattle.header.specs.declared.Table.the-variants.{Hmat}
 use Rattle.header.specs.Header.{meant}
+use Rattle.hmat.specs.Settings.{goodCell}
 use Rattle.recipe.specs.declared.Newest as kept
 use Rattle.recipe.specs.declared.Newest.the-variants as is
 use Rattle.recipe.specs.declared.Refusal.{Refusal}
@@ -34,7 +35,7 @@ use Rattle.recipe.specs.declared.State.{State}
 use Rattle.recipe.specs.declared.Step.{Step}
 use Rattle.recipe.specs.declared.Step.the-variants.{Next, Refused}
 use Rattle.recipe.specs.Answers.{number, outlined}
-use Rattle.recipe.specs.Machine.{newestKept, stateOf, Sound, none-made, makes, made, madeAs, typesIn, nodeTypes, typesOf, TurnsIn, refers, Finds, TurnsFor, goodCell, whole, Stands}
+use Rattle.recipe.specs.Machine.{newestKept, stateOf, Sound, none-made, makes, made, madeAs, typesIn, nodeTypes, typesOf, TurnsIn, refers, Finds, TurnsFor, whole, Stands}
 use Rattle.recipe.proofs.Steps.{Parted, parted-all, set-turn}
 use Rattle.recipe.proofs.Refers.{meant-named, found-here}
 
@@ -234,7 +235,7 @@ pub cell-fits : (r : List ℕ) (p i t : ℕ) → goodCell r p i t ≡ true → p
 cell-fits r p i t good = leb-true (p + 5) (length r) (both-true (leb (p + 5) (length r)) _ (both-true (eqb (at r p) 52) _ good .1) .0)
 
 -- a good cell leaves the state as it is
-module _ (r : List ℕ) (h : Head) (p : ℕ) (s : State) (w : Stands r h p s) (i t : ℕ) (own : s .table ≡ Hmat) (behind : s .newest ≡ is.Matrix i t) (l : p < length r) (good : goodCell r p i t ≡ true) where
+module _ (r : List ℕ) (h : Head) (p : ℕ) (s : State) (w : Stands r h p s) (i t : ℕ) (own : s .table ≡ Hmat) (behind : s .newest ≡ is.Matrix i t) (good : goodCell r p i t ≡ true) where
   tests : (at r p ≡ 52) × (ltb (at r (p + 1)) i ≡ true) × (ltb (at r (p + 2)) t ≡ true)
   tests =
       let (a, x) = both-true (eqb (at r p) 52) _ good in
@@ -252,11 +253,11 @@ module _ (r : List ℕ) (h : Head) (p : ℕ) (s : State) (w : Stands r h p s) (i
       sym (set-turn u s q (drop (p + 1) r) i t Cell _ _ _ (sound r h p s w) (λ ms. refl) (λ ok vs. refl) ns e behind
       ∙ rw (fields-at asIs (body Cell) r (p + 1), two, ← value-byte r (p + 1), ← value-byte r (p + 2), tests .1, tests .2))
 
-  pub cell-passed : Stands r h (p + 5) s
+  pub cell-passed : Stands r h (p + 1 + 4) s
   unfolding width body
   cell-passed =
-      let z : p + 1 + width (body Cell) ≡ p + 5 = omega arith in
-      rw z at (goes r h p s w l Cell named (rw length-drop (omega (arith, cell-fits r p i t good))) s turns)
+      let l : p + 5 ≤ length r = cell-fits r p i t good in
+      goes r h p s w (omega arith) Cell named (rw length-drop (omega arith)) s turns
 
 -- ---- the head
 

@@ -1,6 +1,13 @@
--- What the kinds of the code are in the words of the format.
+-- What the kinds of the code are in the words of the format, and what a record of each names.
+use Prim.Native.Nat.{ℕ}
+use mathlib.Core.List.{List}
 use mathlib.Core.Option.{Option, none, some}
+use Rattle.format.specs.Bytes.{at}
+use Rattle.format.specs.Layout.{fields}
+use Rattle.format.specs.Kind.{body}
 use Rattle.format.specs.Kind as format
+use Rattle.recipe.specs.declared.Reference.{Reference}
+use Rattle.recipe.specs.declared.Reference.the-variants as names
 use Rattle.recipe.specs.declared.Kind.{Kind}
 use Rattle.recipe.specs.declared.Kind.the-variants.{Processor, Resource, Cache, Memory, Acpi, Pci, Rintc, Domain, Matrix, Initiator, Target, Cell, Side, Handle}
 use Rattle.recipe.specs.declared.Named.{Named}
@@ -25,3 +32,30 @@ meantKind Handle = format.Handle
 abbrev pub named : Named → Option format.Kind
 named (As k) = some (meantKind k)
 named Nothing = none
+
+-- what a record of a kind with the fields vs names: a processor its parent, a resource its cache, a cache its next level
+abbrev pub naming : format.Kind → List ℕ → Reference
+naming format.Processor vs = names.Processor (record { 0 = at vs 1 })
+naming format.Resource vs = names.Cache (record { 0 = at vs 0 })
+naming format.Cache vs = names.Cache (record { 0 = at vs 1 })
+naming format.Memory vs = names.Nothing
+naming format.Acpi vs = names.Nothing
+naming format.Pci vs = names.Nothing
+naming format.Rintc vs = names.Nothing
+naming format.Domain vs = names.Nothing
+naming format.Matrix vs = names.Nothing
+naming format.Initiator vs = names.Nothing
+naming format.Target vs = names.Nothing
+naming format.Cell vs = names.Nothing
+naming format.Side vs = names.Nothing
+naming format.Handle vs = names.Nothing
+
+-- of a record whose body the bytes begin with
+abbrev pub referenceOf : format.Kind → List ℕ → Reference
+referenceOf k bs = naming k (fields (body k) bs)
+
+-- the ordinal; 0 for none
+abbrev pub ordinalIn : Reference → ℕ
+ordinalIn (names.Processor h) = h .0
+ordinalIn (names.Cache h) = h .0
+ordinalIn names.Nothing = 0

@@ -5,8 +5,8 @@ use mathlib.Core.List.{List, [], _∷_, _++_}
 use mathlib.Core.Bool.{Bool, false}
 use mathlib.Core.Option.{Option, none, some}
 use lib.ListN.{length, drop, getD}
-use lib.Dec.{eqb, leb, ltb}
-use Rattle.format.specs.Bytes.{pick, all, Answer, refused, given, unless, at, value, part}
+use lib.Dec.{eqb, ltb}
+use Rattle.format.specs.Bytes.{pick, Answer, refused, given, unless}
 use Rattle.format.specs.Layout.{fields}
 use Rattle.format.specs.Table.{Table, front, limit, pptt, Head}
 use Rattle.format.specs.Form.{processor, cache, memory, acpi, pci, rintc, domain, matrix, side, typeOf}
@@ -14,16 +14,16 @@ use Rattle.format.specs.Node.{Node, sizes}
 use Rattle.format.specs.Kind.{Kind, Processor, Resource, Cache, Memory, Acpi, Pci, Rintc, Domain, Matrix, Initiator, Target, Cell, Side, Handle, kindOf, body}
 use Rattle.format.specs.Recipe.{Newest, aProcessor, aMatrix, aSide, other, newest, skip, added, fault, cut, Meaning, run}
 use Rattle.header.specs.Header.{tableNamed, meant}
-use Rattle.header.specs.declared.Table as named
 use Rattle.recipe.specs.declared.Newest as kept
 use Rattle.recipe.specs.declared.Newest.the-variants as is
-use Rattle.recipe.specs.declared.Mark.{Mark}
-use Rattle.recipe.specs.declared.Marks.{Marks}
+use Rattle.marks.specs.declared.Mark.{Mark}
+use Rattle.marks.specs.declared.Marks.{Marks}
 use Rattle.recipe.specs.declared.State.{State}
-use Rattle.recipe.specs.declared.Refusal.the-variants.{TooLong}
+use Rattle.recipe.specs.declared.Refusal.the-variants.{BadField, TooLong}
 use Rattle.recipe.specs.declared.Step.{Step}
 use Rattle.recipe.specs.declared.Step.the-variants.{Next, Refused}
 use Rattle.recipe.specs.Answers.{number}
+use Rattle.recipe.specs.Kinds.{referenceOf, ordinalIn}
 
 -- ---- the state
 
@@ -46,6 +46,10 @@ pub record Sound (s : State) : Type 0 where
 abbrev pub grown : State → ℕ → ℕ → kept.Newest → Step
 grown s n by w =
     pick (ltb limit (s .length + by)) (Refused TooLong) (Next (record { table = s .table; nodes = n; length = s .length + by; newest = w }))
+
+-- the state with one node more, unless it has a bad field or the table is too long
+abbrev pub madeBy : State → ℕ → ℕ → kept.Newest → Step
+madeBy s bad n w = pick (eqb bad 0) (grown s (s .nodes + 1) n w) (Refused BadField)
 
 -- ---- what earlier records say of the nodes: their types, the oldest first
 
@@ -97,20 +101,7 @@ names ts own to ty = pick (eqb to 0) false (pick (ltb to own) (eqb (getD ts (to 
 
 -- the ordinal that the reference of a record names, whose body is bs; 0 for none
 abbrev pub refers : Kind → List ℕ → ℕ
-refers Processor bs = value (part bs 4 4)
-refers Resource bs = value (part bs 0 4)
-refers Cache bs = value (part bs 1 4)
-refers Memory bs = 0
-refers Acpi bs = 0
-refers Pci bs = 0
-refers Rintc bs = 0
-refers Domain bs = 0
-refers Matrix bs = 0
-refers Initiator bs = 0
-refers Target bs = 0
-refers Cell bs = 0
-refers Side bs = 0
-refers Handle bs = 0
+refers k bs = ordinalIn (referenceOf k bs)
 
 -- f is the type of the node that a reference names, if it is one
 abbrev pub Finds : List ℕ → ℕ → ℕ → Type 0
@@ -118,7 +109,7 @@ Finds ts to f = (to ≡ 0 → ⊥) → f ≡ getD ts (to - 1) none-made
 
 -- the nodes of a PPTT's recipe from a mark on are those that its place begins
 abbrev pub Leads : List ℕ → Mark → Type 0
-Leads r m = typesIn pptt 0 (drop (m .at) r) ≡ drop (m .nodes) (nodeTypes pptt r)
+Leads r m = typesIn pptt 0 (drop (m .place) r) ≡ drop (m .nodes) (nodeTypes pptt r)
 
 abbrev pub Leading : List ℕ → Marks → Type 0
 Leading r m = Leads r (m .parent) × Leads r (m .cache) × Leads r (m .back)
@@ -147,10 +138,6 @@ TurnsIn rs k bs s r = (t : Table) (ns : List Node) (p : ℕ) → s ≡ stateOf t
 -- where f is the type of the node that the record names
 abbrev pub TurnsFor : ℕ → Kind → List ℕ → State → Step → Type 0
 TurnsFor f k bs s r = (rs : List ℕ) → Finds (nodeTypes (meant (s .table)) rs) (refers k bs) f → TurnsIn rs k bs s r
-
--- at a place of the recipe stands the whole record of a cell of an I by T matrix
-abbrev pub goodCell : List ℕ → ℕ → ℕ → ℕ → Bool
-goodCell r p i t = all (eqb (at r p) 52 ∷ leb (p + 5) (length r) ∷ ltb (at r (p + 1)) i ∷ ltb (at r (p + 2)) t ∷ [])
 
 -- ---- all records
 

@@ -3,30 +3,39 @@ ghost use mathlib.Core.Path.{_≡_};
 ghost use Prim.Native.Nat.{ℕ, _+_, _≤_, _<_};
 ghost use mathlib.Core.List.{List, []};
 ghost use mathlib.Core.Bool.{true, false};
-ghost use lib.ListN.{length, drop, getD};
+ghost use lib.ListN.{drop, getD};
 ghost use lib.Dec.{eqb, ltb};
-ghost use Rattle.format.specs.Bytes.{pick, all, part};
-ghost use Rattle.format.specs.Layout.{width, fields};
+ghost use Rattle.format.specs.Bytes.{pick, part};
+ghost use Rattle.format.specs.Layout.{width};
 ghost use Rattle.format.specs.Table.{pptt, limit, Head, headOf};
-ghost use Rattle.format.specs.Form.{cache, matrix, side, size, cacheAttributes, ranges};
 ghost use Rattle.format.specs.Kind.{kindNumber, kindOf, body};
 ghost use Rattle.format.specs.Recipe.{cut, run, meaning};
 ghost use Rattle.format.specs.Kind as format;
 ghost use Rattle.header.specs.Header.{meant};
-ghost use Rattle.recipe.specs.Kinds.{meantKind, named};
+ghost use Rattle.recipe.specs.Kinds.{meantKind, named, referenceOf, ordinalIn};
 ghost use Rattle.recipe.specs.Answers.{shown, outlined};
-ghost use Rattle.recipe.specs.Machine.{stateOf, Sound, grown, nodeTypes, makes, refers, Finds, Leads, Leading, Turns, TurnsFor, goodCell, Stands};
+ghost use Rattle.recipe.specs.Machine.{stateOf, Sound, grown, madeBy, nodeTypes, makes, Finds, Leads, Leading, Turns, TurnsFor, Stands};
 use header::Table;
+use header::TableHeader;
+use hmat::Cell;
+use hmat::MemoryProximityDomain;
+use hmat::MemorySideCache;
+use hmat::SmbiosHandle;
+use hmat::SystemLocality;
+use hmat::Value;
+use marks::Mark;
+use marks::Marks;
+use pptt::CacheHandle;
+use pptt::CacheNode;
+use pptt::ProcessorHandle;
+use pptt::ProcessorNode;
+use pptt::Resource;
+use srat::GenericInitiator;
+use srat::MemoryAffinity;
+use srat::RintcAffinity;
 
-// The kind of a head, and the length of its record.
-pub const HEAD: u8 = 1;
-
-pub const HEAD_LEN: usize = 28;
-
-// The types that references name.
-const PROCESSOR_TYPE: u8 = 0;
-
-const CACHE_TYPE: u8 = 1;
+// The length of a head's record.
+pub const HEAD_LEN: usize = 1 + TableHeader::BODY;
 
 // ---- kinds
 
@@ -53,35 +62,14 @@ pub enum Named {
     Nothing,
 }
 
+// What a record names, by ordinal: 0 for none.
+pub enum Reference {
+    Processor(ProcessorHandle),
+    Cache(CacheHandle),
+    Nothing,
+}
+
 impl Kind {
-    pub const PROCESSOR: u8 = 16;
-
-    pub const RESOURCE: u8 = 17;
-
-    pub const CACHE: u8 = 18;
-
-    pub const MEMORY: u8 = 32;
-
-    pub const ACPI: u8 = 33;
-
-    pub const PCI: u8 = 34;
-
-    pub const RINTC: u8 = 35;
-
-    pub const DOMAIN: u8 = 48;
-
-    pub const MATRIX: u8 = 49;
-
-    pub const INITIATOR: u8 = 50;
-
-    pub const TARGET: u8 = 51;
-
-    pub const CELL: u8 = 52;
-
-    pub const SIDE: u8 = 53;
-
-    pub const HANDLE: u8 = 54;
-
     // What makes(..) says of a record that joins a node.
     const NOTHING: u8 = 255;
 
@@ -90,20 +78,20 @@ impl Kind {
         ensures { λ r. ⌜ r ≡ kindNumber (meantKind self) ⌝ }
     {
         match self {
-            Kind::Processor => Self::PROCESSOR,
-            Kind::Resource => Self::RESOURCE,
-            Kind::Cache => Self::CACHE,
-            Kind::Memory => Self::MEMORY,
-            Kind::Acpi => Self::ACPI,
-            Kind::Pci => Self::PCI,
-            Kind::Rintc => Self::RINTC,
-            Kind::Domain => Self::DOMAIN,
-            Kind::Matrix => Self::MATRIX,
-            Kind::Initiator => Self::INITIATOR,
-            Kind::Target => Self::TARGET,
-            Kind::Cell => Self::CELL,
-            Kind::Side => Self::SIDE,
-            Kind::Handle => Self::HANDLE,
+            Kind::Processor => ProcessorNode::KIND,
+            Kind::Resource => Resource::KIND,
+            Kind::Cache => CacheNode::KIND,
+            Kind::Memory => MemoryAffinity::KIND,
+            Kind::Acpi => GenericInitiator::ACPI_KIND,
+            Kind::Pci => GenericInitiator::PCI_KIND,
+            Kind::Rintc => RintcAffinity::KIND,
+            Kind::Domain => MemoryProximityDomain::KIND,
+            Kind::Matrix => SystemLocality::KIND,
+            Kind::Initiator => Value::INITIATOR_KIND,
+            Kind::Target => Value::TARGET_KIND,
+            Kind::Cell => Cell::KIND,
+            Kind::Side => MemorySideCache::KIND,
+            Kind::Handle => SmbiosHandle::KIND,
         }
     }
 
@@ -112,20 +100,20 @@ impl Kind {
         ensures { λ r. ⌜ r ≡ width (body (meantKind self)) ⌝ }
     {
         match self {
-            Kind::Processor => 12,
-            Kind::Resource => 4,
-            Kind::Cache => 21,
-            Kind::Memory => 21,
-            Kind::Acpi => 17,
-            Kind::Pci => 10,
-            Kind::Rintc => 9,
-            Kind::Domain => 8,
-            Kind::Matrix => 13,
-            Kind::Initiator => 5,
-            Kind::Target => 5,
-            Kind::Cell => 4,
-            Kind::Side => 16,
-            Kind::Handle => 2,
+            Kind::Processor => ProcessorNode::BODY,
+            Kind::Resource => Resource::BODY,
+            Kind::Cache => CacheNode::BODY,
+            Kind::Memory => MemoryAffinity::BODY,
+            Kind::Acpi => GenericInitiator::ACPI_BODY,
+            Kind::Pci => GenericInitiator::PCI_BODY,
+            Kind::Rintc => RintcAffinity::BODY,
+            Kind::Domain => MemoryProximityDomain::BODY,
+            Kind::Matrix => SystemLocality::BODY,
+            Kind::Initiator => Value::BODY,
+            Kind::Target => Value::BODY,
+            Kind::Cell => Cell::BODY,
+            Kind::Side => MemorySideCache::BODY,
+            Kind::Handle => SmbiosHandle::BODY,
         }
     }
 
@@ -134,15 +122,15 @@ impl Kind {
         ensures { λ r. ⌜ r ≡ makes (meantKind self) ⌝ }
     {
         match self {
-            Kind::Processor => 0,
-            Kind::Cache => 1,
-            Kind::Memory => 1,
-            Kind::Acpi => 5,
-            Kind::Pci => 5,
-            Kind::Rintc => 7,
-            Kind::Domain => 0,
-            Kind::Matrix => 1,
-            Kind::Side => 2,
+            Kind::Processor => ProcessorNode::TYPE,
+            Kind::Cache => CacheNode::TYPE,
+            Kind::Memory => MemoryAffinity::TYPE,
+            Kind::Acpi => GenericInitiator::TYPE,
+            Kind::Pci => GenericInitiator::TYPE,
+            Kind::Rintc => RintcAffinity::TYPE,
+            Kind::Domain => MemoryProximityDomain::TYPE as u8,
+            Kind::Matrix => SystemLocality::TYPE as u8,
+            Kind::Side => MemorySideCache::TYPE as u8,
             Kind::Resource => Self::NOTHING,
             Kind::Initiator => Self::NOTHING,
             Kind::Target => Self::NOTHING,
@@ -151,37 +139,40 @@ impl Kind {
         }
     }
 
-    // The ordinal that a record of this kind names, whose body the bytes begin with; 0 for none.
-    pub fn refers(self, bytes: &[u8]) -> u32
-        ensures { λ r. ⌜ r ≡ refers (meantKind self) (now (bytes .entry)) ⌝ }
+    // What a record of this kind names, whose body the bytes begin with.
+    pub fn refers(self, bytes: &[u8]) -> Reference
+        ensures { λ r. ⌜ r ≡ referenceOf (meantKind self) (now (bytes .entry)) ⌝ }
     {
         match self {
-            Kind::Processor => field::get_u32(bytes, 4),
-            Kind::Resource => field::get_u32(bytes, 0),
-            Kind::Cache => field::get_u32(bytes, 1),
-            Kind::Memory => 0,
-            Kind::Acpi => 0,
-            Kind::Pci => 0,
-            Kind::Rintc => 0,
-            Kind::Domain => 0,
-            Kind::Matrix => 0,
-            Kind::Initiator => 0,
-            Kind::Target => 0,
-            Kind::Cell => 0,
-            Kind::Side => 0,
-            Kind::Handle => 0,
+            Kind::Processor => Reference::Processor(ProcessorNode::parent_in(bytes)),
+            Kind::Resource => {
+                let cache = Resource::from_body(bytes).cache;
+                Reference::Cache(cache)
+            }
+            Kind::Cache => Reference::Cache(CacheNode::next_level_in(bytes)),
+            Kind::Memory => Reference::Nothing,
+            Kind::Acpi => Reference::Nothing,
+            Kind::Pci => Reference::Nothing,
+            Kind::Rintc => Reference::Nothing,
+            Kind::Domain => Reference::Nothing,
+            Kind::Matrix => Reference::Nothing,
+            Kind::Initiator => Reference::Nothing,
+            Kind::Target => Reference::Nothing,
+            Kind::Cell => Reference::Nothing,
+            Kind::Side => Reference::Nothing,
+            Kind::Handle => Reference::Nothing,
         }
     }
 }
 
 fn of_pptt(table: Table, byte: u8) -> Named
-    requires { ⌜ (16 ≤ byte) × (byte ≤ 18) ⌝ }
+    requires { ⌜ (kindNumber format.Processor ≤ byte) × (byte ≤ kindNumber format.Cache) ⌝ }
     ensures { λ r. ⌜ named r ≡ kindOf (meant table) byte ⌝ }
 {
     match table {
         Table::Pptt => match byte {
-            Kind::PROCESSOR => Named::As(Kind::Processor),
-            Kind::RESOURCE => Named::As(Kind::Resource),
+            ProcessorNode::KIND => Named::As(Kind::Processor),
+            Resource::KIND => Named::As(Kind::Resource),
             _ => Named::As(Kind::Cache),
         },
         Table::Srat => Named::Nothing,
@@ -190,15 +181,15 @@ fn of_pptt(table: Table, byte: u8) -> Named
 }
 
 fn of_srat(table: Table, byte: u8) -> Named
-    requires { ⌜ (32 ≤ byte) × (byte ≤ 35) ⌝ }
+    requires { ⌜ (kindNumber format.Memory ≤ byte) × (byte ≤ kindNumber format.Rintc) ⌝ }
     ensures { λ r. ⌜ named r ≡ kindOf (meant table) byte ⌝ }
 {
     match table {
         Table::Pptt => Named::Nothing,
         Table::Srat => match byte {
-            Kind::MEMORY => Named::As(Kind::Memory),
-            Kind::ACPI => Named::As(Kind::Acpi),
-            Kind::PCI => Named::As(Kind::Pci),
+            MemoryAffinity::KIND => Named::As(Kind::Memory),
+            GenericInitiator::ACPI_KIND => Named::As(Kind::Acpi),
+            GenericInitiator::PCI_KIND => Named::As(Kind::Pci),
             _ => Named::As(Kind::Rintc),
         },
         Table::Hmat => Named::Nothing,
@@ -206,19 +197,19 @@ fn of_srat(table: Table, byte: u8) -> Named
 }
 
 fn of_hmat(table: Table, byte: u8) -> Named
-    requires { ⌜ (48 ≤ byte) × (byte ≤ 54) ⌝ }
+    requires { ⌜ (kindNumber format.Domain ≤ byte) × (byte ≤ kindNumber format.Handle) ⌝ }
     ensures { λ r. ⌜ named r ≡ kindOf (meant table) byte ⌝ }
 {
     match table {
         Table::Pptt => Named::Nothing,
         Table::Srat => Named::Nothing,
         Table::Hmat => match byte {
-            Kind::DOMAIN => Named::As(Kind::Domain),
-            Kind::MATRIX => Named::As(Kind::Matrix),
-            Kind::INITIATOR => Named::As(Kind::Initiator),
-            Kind::TARGET => Named::As(Kind::Target),
-            Kind::CELL => Named::As(Kind::Cell),
-            Kind::SIDE => Named::As(Kind::Side),
+            MemoryProximityDomain::KIND => Named::As(Kind::Domain),
+            SystemLocality::KIND => Named::As(Kind::Matrix),
+            Value::INITIATOR_KIND => Named::As(Kind::Initiator),
+            Value::TARGET_KIND => Named::As(Kind::Target),
+            Cell::KIND => Named::As(Kind::Cell),
+            MemorySideCache::KIND => Named::As(Kind::Side),
             _ => Named::As(Kind::Handle),
         },
     }
@@ -229,9 +220,9 @@ pub fn kind_of(table: Table, byte: u8) -> Named
     ensures { λ r. ⌜ named r ≡ kindOf (meant table) byte ⌝ }
 {
     match byte {
-        16..=18 => of_pptt(table, byte),
-        32..=35 => of_srat(table, byte),
-        48..=54 => of_hmat(table, byte),
+        ProcessorNode::KIND..=CacheNode::KIND => of_pptt(table, byte),
+        MemoryAffinity::KIND..=RintcAffinity::KIND => of_srat(table, byte),
+        MemoryProximityDomain::KIND..=SmbiosHandle::KIND => of_hmat(table, byte),
         _ => Named::Nothing,
     }
 }
@@ -260,7 +251,7 @@ pub enum Checked {
 // The newest node, if a record can join it, with its counts.
 pub enum Newest {
     Processor(u8),
-    Matrix(u8, u8),
+    Matrix(u32, u32),
     Side(u16),
     Other,
 }
@@ -308,15 +299,20 @@ impl State {
             newest,
         })
     }
+
+    // With one node more, whose first bad field is given (0 for none), and whose record has so many bytes.
+    fn made(self, bad: usize, len: usize, newest: Newest) -> Step
+        requires { ⌜ Sound self × (len ≤ limit) ⌝ }
+        ensures { λ r. ⌜ r ≡ madeBy self bad len newest ⌝ }
+    {
+        if bad != 0 {
+            return Step::Refused(Refusal::BadField);
+        }
+        self.grown(self.nodes + 1, len, newest)
+    }
 }
 
 // ---- references
-
-// A place in a PPTT's recipe, and how many nodes the records before it make.
-pub struct Mark {
-    pub nodes: usize,
-    pub at: usize,
-}
 
 // A node that was looked for: its record, and its type.
 pub struct Found {
@@ -324,33 +320,19 @@ pub struct Found {
     pub ty: u8,
 }
 
-// The node that was named last as a parent, the farthest one named as a cache, the last one named before that, and the type of the last of all.
-pub struct Marks {
-    pub parent: Mark,
-    pub cache: Mark,
-    pub back: Mark,
+// The marks, and the type of the node that was looked for last.
+pub struct Looked {
+    pub marks: Marks,
     pub ty: u8,
 }
 
-impl Mark {
-    // The first record.
-    fn first() -> Self
-        ensures { λ r. ⌜ r ≡ record { nodes = 0; at = 28 } ⌝ }
-    {
-        Self {
-            nodes: 0,
-            at: HEAD_LEN,
-        }
-    }
-
-    // From where to look for node i, counted from 0: from here, unless that is past it.
-    fn up_to(self, i: usize) -> Self
-        ensures { λ r. ⌜ (r .nodes ≤ i) × ((rs : List ℕ) → Leads rs self → Leads rs r) ⌝ }
-    {
-        if i < self.nodes {
-            return Self::first();
-        }
-        self
+// The first record.
+fn first() -> Mark
+    ensures { λ r. ⌜ r ≡ record { nodes = 0; place = 28 } ⌝ }
+{
+    Mark {
+        nodes: 0,
+        place: HEAD_LEN,
     }
 }
 
@@ -359,7 +341,7 @@ fn find(recipe: &[u8], from: Mark, i: usize) -> Found
     requires { ⌜ (from .nodes ≤ i) × Leads (now recipe) from ⌝ }
     ensures { λ r. ⌜ Leads (now (recipe .entry)) (r .mark) × (r .ty ≡ getD (nodeTypes pptt (now (recipe .entry))) i 255) ⌝ }
 {
-    let mut at = from.at;
+    let mut at = from.place;
     let mut left = i - from.nodes;
     while at < recipe.len() {
         let Named::As(kind) = kind_of(Table::Pptt, recipe[at]) else {
@@ -375,7 +357,10 @@ fn find(recipe: &[u8], from: Mark, i: usize) -> Found
         } else {
             if left == 0 {
                 return Found {
-                    mark: Mark { nodes: i, at },
+                    mark: Mark {
+                        nodes: i,
+                        place: at,
+                    },
                     ty,
                 };
             }
@@ -389,103 +374,92 @@ fn find(recipe: &[u8], from: Mark, i: usize) -> Found
     }
 }
 
-impl Marks {
-    // Of no nodes.
-    fn new() -> Self
-        ensures { λ r. ⌜ r ≡ record { parent = record { nodes = 0; at = 28 }; cache = record { nodes = 0; at = 28 }; back = record { nodes = 0; at = 28 }; ty = 255 } ⌝ }
-    {
-        let first = Mark::first();
-        Self {
-            parent: first,
-            cache: first,
-            back: first,
+// At the parent that a processor names, if it names one.
+fn look_for_processor(recipe: &[u8], marks: Marks, h: ProcessorHandle) -> Looked
+    requires { ⌜ Leading (now recipe) marks ⌝ }
+    ensures { λ r. ⌜ Leading (now (recipe .entry)) (r .marks) × Finds (nodeTypes pptt (now (recipe .entry))) (h .0) (r .ty) ⌝ }
+{
+    if h.0 == 0 {
+        return Looked {
+            marks,
             ty: Kind::NOTHING,
-        }
+        };
     }
-
-    // At the parent i, counted from 0.
-    fn at_parent(self, recipe: &[u8], i: usize) -> Self
-        requires { ⌜ Leading (now recipe) self ⌝ }
-        ensures { λ r. ⌜ Leading (now (recipe .entry)) r × (r .ty ≡ getD (nodeTypes pptt (now (recipe .entry))) i 255) ⌝ }
-    {
-        let parent = self.parent;
-        let cache = self.cache;
-        let back = self.back;
-        let found = find(recipe, parent.up_to(i), i);
-        let mark = found.mark;
-        Self {
-            parent: mark,
-            cache,
-            back,
-            ty: found.ty,
-        }
-    }
-
-    // At the cache i, counted from 0.
-    fn at_cache(self, recipe: &[u8], i: usize) -> Self
-        requires { ⌜ Leading (now recipe) self ⌝ }
-        ensures { λ r. ⌜ Leading (now (recipe .entry)) r × (r .ty ≡ getD (nodeTypes pptt (now (recipe .entry))) i 255) ⌝ }
-    {
-        let parent = self.parent;
-        let cache = self.cache;
-        let back = self.back;
-        if i < cache.nodes {
-            let found = find(recipe, back.up_to(i), i);
-            let mark = found.mark;
-            return Self {
-                parent,
-                cache,
-                back: mark,
-                ty: found.ty,
-            };
-        }
-        let found = find(recipe, cache, i);
-        let mark = found.mark;
-        Self {
-            parent,
-            cache: mark,
-            back,
-            ty: found.ty,
-        }
-    }
-
-    // At the node that a record names, if it names one.
-    fn looked(self, recipe: &[u8], kind: Kind, bytes: &[u8]) -> Self
-        requires { ⌜ Leading (now recipe) self ⌝ }
-        ensures { λ r. ⌜ Leading (now (recipe .entry)) r × Finds (nodeTypes pptt (now (recipe .entry))) (refers (meantKind kind) (now (bytes .entry))) (r .ty) ⌝ }
-    {
-        let to = kind.refers(bytes);
-        if to == 0 {
-            return self;
-        }
-        let i = to as usize - 1;
-        match kind {
-            Kind::Processor => self.at_parent(recipe, i),
-            _ => self.at_cache(recipe, i),
-        }
+    let i = h.0 as usize - 1;
+    let found = find(recipe, marks.toward_parent(first(), i), i);
+    Looked {
+        marks: marks.at_parent(found.mark),
+        ty: found.ty,
     }
 }
 
-// A reference is to a node below the ordinal own, and what was found there is of this type.
-fn names(found: u8, own: usize, to: u32, ty: u8) -> bool
-    ensures { λ r. ⌜ r ≡ pick (eqb to 0) false (pick (ltb to own) (eqb found ty) false) ⌝ }
+// At the cache that a resource or a cache names, if it names one.
+fn look_for_cache(recipe: &[u8], marks: Marks, h: CacheHandle) -> Looked
+    requires { ⌜ Leading (now recipe) marks ⌝ }
+    ensures { λ r. ⌜ Leading (now (recipe .entry)) (r .marks) × Finds (nodeTypes pptt (now (recipe .entry))) (h .0) (r .ty) ⌝ }
 {
-    if to == 0 {
-        return false;
+    if h.0 == 0 {
+        return Looked {
+            marks,
+            ty: Kind::NOTHING,
+        };
     }
-    if own <= to as usize {
-        return false;
+    let i = h.0 as usize - 1;
+    let found = find(recipe, marks.toward_cache(first(), i), i);
+    Looked {
+        marks: marks.at_cache(i, found.mark),
+        ty: found.ty,
     }
-    found == ty
 }
 
-fn names_or_none(found: u8, own: usize, to: u32, ty: u8) -> bool
-    ensures { λ r. ⌜ r ≡ pick (eqb to 0) true (pick (ltb to own) (eqb found ty) false) ⌝ }
+// At the node that a record names.
+fn look_for(recipe: &[u8], marks: Marks, reference: Reference) -> Looked
+    requires { ⌜ Leading (now recipe) marks ⌝ }
+    ensures { λ r. ⌜ Leading (now (recipe .entry)) (r .marks) × Finds (nodeTypes pptt (now (recipe .entry))) (ordinalIn reference) (r .ty) ⌝ }
 {
-    if to == 0 {
+    match reference {
+        Reference::Processor(h) => look_for_processor(recipe, marks, h),
+        Reference::Cache(h) => look_for_cache(recipe, marks, h),
+        Reference::Nothing => Looked {
+            marks,
+            ty: Kind::NOTHING,
+        },
+    }
+}
+
+// A handle is none, or names a node below the ordinal own, and a processor was found there.
+fn is_processor_or_none(found: u8, own: usize, h: ProcessorHandle) -> bool
+    ensures { λ r. ⌜ r ≡ pick (eqb (h .0) 0) true (pick (ltb (h .0) own) (eqb found 0) false) ⌝ }
+{
+    if h.0 == 0 {
         return true;
     }
-    names(found, own, to, ty)
+    if own <= h.0 as usize {
+        return false;
+    }
+    found == ProcessorNode::TYPE
+}
+
+// A handle names a node below the ordinal own, and a cache was found there.
+fn is_cache(found: u8, own: usize, h: CacheHandle) -> bool
+    ensures { λ r. ⌜ r ≡ pick (eqb (h .0) 0) false (pick (ltb (h .0) own) (eqb found 1) false) ⌝ }
+{
+    if h.0 == 0 {
+        return false;
+    }
+    if own <= h.0 as usize {
+        return false;
+    }
+    found == CacheNode::TYPE
+}
+
+fn is_cache_or_none(found: u8, own: usize, h: CacheHandle) -> bool
+    ensures { λ r. ⌜ r ≡ pick (eqb (h .0) 0) true (pick (ltb (h .0) own) (eqb found 1) false) ⌝ }
+{
+    if h.0 == 0 {
+        return true;
+    }
+    is_cache(found, own, h)
 }
 
 // ---- PPTT
@@ -494,12 +468,12 @@ fn processor(found: u8, bytes: &[u8], st: State) -> Step
     requires { ⌜ Sound st ⌝ }
     ensures { λ r. ⌜ TurnsFor found format.Processor (now (bytes .entry)) st r ⌝ }
 {
-    let parent = field::get_u32(bytes, 4);
+    let parent = ProcessorNode::parent_in(bytes);
     let own = st.nodes + 1;
-    if !names_or_none(found, own, parent, PROCESSOR_TYPE) {
+    if !is_processor_or_none(found, own, parent) {
         return Step::Refused(Refusal::BadRef);
     }
-    st.grown(own, 20, Newest::Processor(0))
+    st.grown(own, ProcessorNode::LEN, Newest::Processor(0))
 }
 
 fn resource(found: u8, bytes: &[u8], st: State) -> Step
@@ -511,174 +485,44 @@ fn resource(found: u8, bytes: &[u8], st: State) -> Step
         return Step::Refused(Refusal::Misplaced);
     };
     let own = st.nodes;
-    let cache = field::get_u32(bytes, 0);
-    if !names(found, own, cache, CACHE_TYPE) {
+    let cache = Resource::from_body(bytes).cache;
+    if !is_cache(found, own, cache) {
         return Step::Refused(Refusal::BadRef);
     }
-    if 58 <= n {
+    if ProcessorNode::MAX_RESOURCES <= n {
         return Step::Refused(Refusal::FullNode);
     }
-    st.grown(own, 4, Newest::Processor(n + 1))
-}
-
-// A field whose flag is off is 0.
-fn is_kept(flag: u8, value: u32) -> bool
-    ensures { λ r. ⌜ r ≡ pick (eqb flag 1) true (eqb value 0) ⌝ }
-{
-    if flag == 1 {
-        return true;
-    }
-    value == 0
-}
-
-// Allocation, type and policy, each with its flag.
-fn is_good_attributes(flags: u8, attributes: u8) -> bool
-    ensures { λ r. ⌜ r ≡ cacheAttributes flags attributes ⌝ }
-{
-    let allocation = attributes % 4;
-    let ty = attributes / 4 % 4;
-    let policy = attributes / 16 % 2;
-    if 2 < allocation {
-        return false;
-    }
-    if 2 < ty {
-        return false;
-    }
-    if 32 <= attributes {
-        return false;
-    }
-    if !is_kept(flags / 8 % 2, allocation as u32) {
-        return false;
-    }
-    if !is_kept(flags / 16 % 2, ty as u32) {
-        return false;
-    }
-    is_kept(flags / 32 % 2, policy as u32)
-}
-
-fn is_good_cache(bytes: &[u8]) -> bool
-    ensures { λ r. ⌜ r ≡ all (ranges cache (fields (body format.Cache) (now (bytes .entry)))) ⌝ }
-{
-    let flags = field::get_u8(bytes, 0);
-    if !is_kept(flags % 2, field::get_u32(bytes, 5)) {
-        return false;
-    }
-    if !is_kept(flags / 2 % 2, field::get_u32(bytes, 9)) {
-        return false;
-    }
-    if !is_kept(flags / 4 % 2, field::get_u8(bytes, 13) as u32) {
-        return false;
-    }
-    if !is_good_attributes(flags, field::get_u8(bytes, 14)) {
-        return false;
-    }
-    if !is_kept(flags / 64 % 2, field::get_u16(bytes, 15) as u32) {
-        return false;
-    }
-    is_kept(flags / 128 % 2, field::get_u32(bytes, 17))
+    st.grown(own, Resource::LEN, Newest::Processor(n + 1))
 }
 
 fn cache(found: u8, bytes: &[u8], st: State) -> Step
     requires { ⌜ Sound st ⌝ }
     ensures { λ r. ⌜ TurnsFor found format.Cache (now (bytes .entry)) st r ⌝ }
 {
-    if !is_good_cache(bytes) {
+    let node = CacheNode::from_body(bytes);
+    if node.bad_field() != 0 {
         return Step::Refused(Refusal::BadField);
     }
-    let next_level = field::get_u32(bytes, 1);
+    let next_level = node.next_level;
     let own = st.nodes + 1;
-    if !names_or_none(found, own, next_level, CACHE_TYPE) {
+    if !is_cache_or_none(found, own, next_level) {
         return Step::Refused(Refusal::BadRef);
     }
-    st.grown(own, 28, Newest::Other)
-}
-
-// ---- SRAT
-
-fn memory(bytes: &[u8], st: State) -> Step
-    requires { ⌜ Sound st ⌝ }
-    ensures { λ r. ⌜ Turns format.Memory (now (bytes .entry)) st r ⌝ }
-{
-    if 7 < field::get_u8(bytes, 20) {
-        return Step::Refused(Refusal::BadField);
-    }
-    st.grown(st.nodes + 1, 40, Newest::Other)
-}
-
-fn acpi(bytes: &[u8], st: State) -> Step
-    requires { ⌜ Sound st ⌝ }
-    ensures { λ r. ⌜ Turns format.Acpi (now (bytes .entry)) st r ⌝ }
-{
-    if 3 < field::get_u8(bytes, 16) {
-        return Step::Refused(Refusal::BadField);
-    }
-    st.grown(st.nodes + 1, 32, Newest::Other)
-}
-
-fn pci(bytes: &[u8], st: State) -> Step
-    requires { ⌜ Sound st ⌝ }
-    ensures { λ r. ⌜ Turns format.Pci (now (bytes .entry)) st r ⌝ }
-{
-    if 31 < field::get_u8(bytes, 7) {
-        return Step::Refused(Refusal::BadField);
-    }
-    if 7 < field::get_u8(bytes, 8) {
-        return Step::Refused(Refusal::BadField);
-    }
-    if 3 < field::get_u8(bytes, 9) {
-        return Step::Refused(Refusal::BadField);
-    }
-    st.grown(st.nodes + 1, 32, Newest::Other)
-}
-
-fn rintc(bytes: &[u8], st: State) -> Step
-    requires { ⌜ Sound st ⌝ }
-    ensures { λ r. ⌜ Turns format.Rintc (now (bytes .entry)) st r ⌝ }
-{
-    if 1 < field::get_u8(bytes, 4) {
-        return Step::Refused(Refusal::BadField);
-    }
-    st.grown(st.nodes + 1, 16, Newest::Other)
+    st.grown(own, CacheNode::LEN, Newest::Other)
 }
 
 // ---- HMAT
-
-fn domain(bytes: &[u8], st: State) -> Step
-    requires { ⌜ Sound st ⌝ }
-    ensures { λ r. ⌜ Turns format.Domain (now (bytes .entry)) st r ⌝ }
-{
-    st.grown(st.nodes + 1, 40, Newest::Other)
-}
-
-// The length of an I by T matrix's record.
-fn matrix_len(i: u8, t: u8) -> usize
-    ensures { λ r. ⌜ r ≡ size (matrix i t) ⌝ }
-{
-    let i = i as usize;
-    let t = t as usize;
-    32 + 4 * i + 4 * t + 2 * (i * t)
-}
 
 fn matrix(bytes: &[u8], st: State) -> Step
     requires { ⌜ Sound st ⌝ }
     ensures { λ r. ⌜ Turns format.Matrix (now (bytes .entry)) st r ⌝ }
 {
-    let flags = field::get_u8(bytes, 0);
-    if flags / 4 % 4 != 0 {
-        return Step::Refused(Refusal::BadField);
-    }
-    if 64 <= flags {
-        return Step::Refused(Refusal::BadField);
-    }
-    if 5 < field::get_u8(bytes, 1) {
-        return Step::Refused(Refusal::BadField);
-    }
-    if 11 < field::get_u8(bytes, 2) {
-        return Step::Refused(Refusal::BadField);
-    }
-    let i = field::get_u8(bytes, 11);
-    let t = field::get_u8(bytes, 12);
-    st.grown(st.nodes + 1, matrix_len(i, t), Newest::Matrix(i, t))
+    let node = SystemLocality::from_body(bytes);
+    st.made(
+        node.bad_field(),
+        node.len(),
+        Newest::Matrix(node.initiators, node.targets),
+    )
 }
 
 fn initiator(bytes: &[u8], st: State) -> Step
@@ -689,7 +533,7 @@ fn initiator(bytes: &[u8], st: State) -> Step
     let Newest::Matrix(i, _) = newest else {
         return Step::Refused(Refusal::Misplaced);
     };
-    if i <= field::get_u8(bytes, 0) {
+    if Value::from_body(bytes).bad_field(i) != 0 {
         return Step::Refused(Refusal::BadField);
     }
     Step::Next(st)
@@ -703,7 +547,7 @@ fn target(bytes: &[u8], st: State) -> Step
     let Newest::Matrix(_, t) = newest else {
         return Step::Refused(Refusal::Misplaced);
     };
-    if t <= field::get_u8(bytes, 0) {
+    if Value::from_body(bytes).bad_field(t) != 0 {
         return Step::Refused(Refusal::BadField);
     }
     Step::Next(st)
@@ -717,48 +561,24 @@ fn cell(bytes: &[u8], st: State) -> Step
     let Newest::Matrix(i, t) = newest else {
         return Step::Refused(Refusal::Misplaced);
     };
-    if i <= field::get_u8(bytes, 0) {
-        return Step::Refused(Refusal::BadField);
-    }
-    if t <= field::get_u8(bytes, 1) {
+    if Cell::from_body(bytes).bad_field(i, t) != 0 {
         return Step::Refused(Refusal::BadField);
     }
     Step::Next(st)
 }
 
-// Levels, associativity and policy, four bits each.
-fn side(bytes: &[u8], st: State) -> Step
+fn handle(st: State) -> Step
     requires { ⌜ Sound st ⌝ }
-    ensures { λ r. ⌜ Turns format.Side (now (bytes .entry)) st r ⌝ }
-{
-    let attributes = field::get_u32(bytes, 12);
-    if 3 < attributes % 16 {
-        return Step::Refused(Refusal::BadField);
-    }
-    if 3 < attributes / 16 % 16 {
-        return Step::Refused(Refusal::BadField);
-    }
-    if 2 < attributes / 256 % 16 {
-        return Step::Refused(Refusal::BadField);
-    }
-    if 2 < attributes / 4096 % 16 {
-        return Step::Refused(Refusal::BadField);
-    }
-    st.grown(st.nodes + 1, 32, Newest::Side(0))
-}
-
-fn handle(bytes: &[u8], st: State) -> Step
-    requires { ⌜ Sound st ⌝ }
-    ensures { λ r. ⌜ Turns format.Handle (now (bytes .entry)) st r ⌝ }
+    ensures { λ r. ⌜ ((bs : List ℕ) → Turns format.Handle bs st r) ⌝ }
 {
     let newest = st.newest;
     let Newest::Side(n) = newest else {
         return Step::Refused(Refusal::Misplaced);
     };
-    if 65535 <= n {
+    if MemorySideCache::MAX_HANDLES <= n {
         return Step::Refused(Refusal::FullNode);
     }
-    st.grown(st.nodes, 2, Newest::Side(n + 1))
+    st.grown(st.nodes, SmbiosHandle::LEN, Newest::Side(n + 1))
 }
 
 // ---- the pass
@@ -772,35 +592,38 @@ fn judge(found: u8, kind: Kind, bytes: &[u8], st: State) -> Step
         Kind::Processor => processor(found, bytes, st),
         Kind::Resource => resource(found, bytes, st),
         Kind::Cache => cache(found, bytes, st),
-        Kind::Memory => memory(bytes, st),
-        Kind::Acpi => acpi(bytes, st),
-        Kind::Pci => pci(bytes, st),
-        Kind::Rintc => rintc(bytes, st),
-        Kind::Domain => domain(bytes, st),
+        Kind::Memory => st.made(
+            MemoryAffinity::from_body(bytes).bad_field(),
+            MemoryAffinity::LEN,
+            Newest::Other,
+        ),
+        Kind::Acpi => st.made(
+            GenericInitiator::from_acpi_body(bytes).bad_field(),
+            GenericInitiator::LEN,
+            Newest::Other,
+        ),
+        Kind::Pci => st.made(
+            GenericInitiator::from_pci_body(bytes).bad_field(),
+            GenericInitiator::LEN,
+            Newest::Other,
+        ),
+        Kind::Rintc => st.made(
+            RintcAffinity::from_body(bytes).bad_field(),
+            RintcAffinity::LEN,
+            Newest::Other,
+        ),
+        Kind::Domain => st.made(0, MemoryProximityDomain::LEN, Newest::Other),
         Kind::Matrix => matrix(bytes, st),
         Kind::Initiator => initiator(bytes, st),
         Kind::Target => target(bytes, st),
         Kind::Cell => cell(bytes, st),
-        Kind::Side => side(bytes, st),
-        Kind::Handle => handle(bytes, st),
+        Kind::Side => st.made(
+            MemorySideCache::from_body(bytes).bad_field(),
+            MemorySideCache::LEN,
+            Newest::Side(0),
+        ),
+        Kind::Handle => handle(st),
     }
-}
-
-// At a place stands the whole record of a cell of an I by T matrix.
-fn is_good_cell(recipe: &[u8], at: usize, i: u8, t: u8) -> bool
-    requires { ⌜ at < length (now recipe) ⌝ }
-    ensures { λ r. ⌜ r ≡ goodCell (now (recipe .entry)) at i t ⌝ }
-{
-    if recipe[at] != Kind::CELL {
-        return false;
-    }
-    if recipe.len() - at < 5 {
-        return false;
-    }
-    if i <= recipe[at + 1] {
-        return false;
-    }
-    recipe[at + 2] < t
 }
 
 // The place behind the good cells that follow: they leave the state as it is.
@@ -816,11 +639,8 @@ fn past_cells(recipe: &[u8], from: usize, st: State) -> usize
         return from;
     };
     let mut at = from;
-    while at < recipe.len() {
-        if !is_good_cell(recipe, at, i, t) {
-            return at;
-        }
-        at = at + 5;
+    while Cell::stands(recipe, at, i, t) {
+        at = at + 1 + Cell::BODY;
     }
     at
 }
@@ -831,7 +651,7 @@ fn walk(recipe: &[u8], table: Table) -> Checked
 {
     let mut at = HEAD_LEN;
     let mut st = State::new(table);
-    let mut marks = Marks::new();
+    let mut marks = Marks::new(first());
     while at < recipe.len() {
         let Named::As(kind) = kind_of(table, recipe[at]) else {
             return Checked::Refused(Refusal::BadKind, at);
@@ -842,11 +662,13 @@ fn walk(recipe: &[u8], table: Table) -> Checked
         if bytes.len() < n {
             return Checked::Refused(Refusal::Cut, at);
         }
-        marks = marks.looked(recipe, kind, bytes);
-        match judge(marks.ty, kind, bytes, st) {
-            Step::Next(next) => {
-                st = next;
-                at = past_cells(recipe, end, next);
+        let looked = look_for(recipe, marks, kind.refers(bytes));
+        let next = looked.marks;
+        marks = next;
+        match judge(looked.ty, kind, bytes, st) {
+            Step::Next(more) => {
+                st = more;
+                at = past_cells(recipe, end, more);
             }
             Step::Refused(refusal) => {
                 return Checked::Refused(refusal, at);
@@ -860,16 +682,16 @@ fn walk(recipe: &[u8], table: Table) -> Checked
 pub fn check(recipe: &[u8]) -> Checked
     ensures { λ r. ⌜ shown r ≡ outlined (meaning (now (recipe .entry))) ⌝ }
 {
-    if field::get_u8(recipe, 0) != HEAD {
+    if field::get_u8(recipe, 0) != TableHeader::KIND {
         return Checked::Refused(Refusal::NoHead, 0);
     }
     if recipe.len() < HEAD_LEN {
         return Checked::Refused(Refusal::Cut, 0);
     }
     match field::get_u8(recipe, 1) {
-        0 => walk(recipe, Table::Pptt),
-        1 => walk(recipe, Table::Srat),
-        2 => walk(recipe, Table::Hmat),
+        Table::PPTT_CODE => walk(recipe, Table::Pptt),
+        Table::SRAT_CODE => walk(recipe, Table::Srat),
+        Table::HMAT_CODE => walk(recipe, Table::Hmat),
         _ => Checked::Refused(Refusal::BadField, 0),
     }
 }

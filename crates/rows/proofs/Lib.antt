@@ -1,4 +1,3 @@
 pub mod Laws
-pub mod Tests
 pub mod Matches
 pub mod Unique

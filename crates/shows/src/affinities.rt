@@ -26,11 +26,13 @@ pub fn memory(n: MemoryAffinity) {
     words::end();
 }
 
-// An ACPI device: its hid stands in the table as eight bytes of text.
-fn acpi(hid: &[u8], uid: u32) {
+// An ACPI device: its hid is a number whose eight bytes are text.
+fn acpi(hid: u64, uid: u32) {
+    let mut text = [0u8; 8];
+    field::put_u64(&mut text, 0, hid);
     words::name(b"handle");
     words::say(b"ACPI hid ");
-    words::text(hid, 8);
+    words::text(&text, 8);
     words::say(b", uid ");
     words::number(uid as u64);
     words::end();
@@ -50,10 +52,9 @@ fn pci(segment: u16, bus: u8, device: u8, function: u8) {
     words::end();
 }
 
-// The handle of the initiator whose record these bytes are.
-fn handle(body: &[u8], h: Handle) {
+fn handle(h: Handle) {
     match h {
-        Handle::Acpi { hid: _, uid } => acpi(field::rest(body, 8), uid),
+        Handle::Acpi { hid, uid } => acpi(hid, uid),
         Handle::Pci {
             segment,
             bus,
@@ -63,11 +64,11 @@ fn handle(body: &[u8], h: Handle) {
     }
 }
 
-// A generic initiator, of whose record these are the bytes.
-pub fn initiator(body: &[u8], n: GenericInitiator) {
+// A generic initiator.
+pub fn initiator(n: GenericInitiator) {
     words::line(b"domain", n.proximity_domain as u64);
     let h = n.handle;
-    handle(body, h);
+    handle(h);
     words::flags(n.flags as u64);
     let some = words::bit(n.flags, GenericInitiator::ENABLED, b"enabled", false);
     words::bit(

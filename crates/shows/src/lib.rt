@@ -68,7 +68,7 @@ fn fields(table: &[u8], place: usize, node: Node) {
         Node::Processor(n) => nodes::processor(table, place, n),
         Node::Cache(n) => nodes::cache(table, n),
         Node::Memory(n) => affinities::memory(n),
-        Node::Initiator(n) => affinities::initiator(read::body_at(table, place), n),
+        Node::Initiator(n) => affinities::initiator(n),
         Node::Rintc(n) => affinities::rintc(n),
         Node::Domain(n) => localities::domain(n),
         Node::Matrix(n) => localities::matrix(table, place, n),

@@ -14,9 +14,9 @@ pub fn domain(n: MemoryProximityDomain) {
 
 // ---- matrices
 
-// The lowest two bits: which level the matrix is about.
-fn locality(flags: u8) -> bool {
-    match flags % 4 {
+// Which level the matrix is about.
+fn locality(level: u8) -> bool {
+    match level {
         0 => words::item(b"memory", false),
         1 => words::item(b"first level cache", false),
         2 => words::item(b"second level cache", false),
@@ -25,10 +25,10 @@ fn locality(flags: u8) -> bool {
 }
 
 // The flags of a matrix: a level, and two bits.
-fn matrix_flags(flags: u8) {
-    words::flags(flags as u64);
-    let some = locality(flags);
-    let bits = flags as u32;
+fn matrix_flags(m: SystemLocality) {
+    let bits = m.flags as u32;
+    words::flags(bits as u64);
+    let some = locality(m.locality());
     let required = SystemLocality::MINIMUM_TRANSFER_SIZE_REQD as u32;
     let some = words::bit(bits, required, b"minimum transfer size required", some);
     let scattered = SystemLocality::NON_SEQUENTIAL_TRANSFERS as u32;
@@ -86,22 +86,25 @@ fn wider(w: usize, n: u32) -> usize {
 }
 
 // The width of the column of initiators: no narrower than its name.
-fn label_width(table: &[u8], place: usize, initiators: usize) -> usize {
+fn label_width(table: &[u8], place: usize, initiators: u32) -> usize {
     let mut w = 13;
     let mut i = 0;
     while i < initiators {
-        w = wider(w, SystemLocality::initiator_value(table, place, i));
+        w = wider(w, SystemLocality::initiator_value(table, place, i as usize));
         i += 1;
     }
     w
 }
 
 // The width of the columns of targets: no narrower than the widest entry.
-fn entry_width(table: &[u8], place: usize, initiators: usize, targets: usize) -> usize {
+fn entry_width(table: &[u8], place: usize, initiators: u32, targets: u32) -> usize {
     let mut w = 7;
     let mut t = 0;
     while t < targets {
-        w = wider(w, SystemLocality::target_value(table, place, initiators, t));
+        w = wider(
+            w,
+            SystemLocality::target_value(table, place, initiators as usize, t as usize),
+        );
         t += 1;
     }
     w
@@ -114,12 +117,12 @@ struct Widths {
 }
 
 // The targets, above their columns.
-fn target_line(table: &[u8], place: usize, initiators: usize, targets: usize, w: Widths) {
+fn target_line(table: &[u8], place: usize, initiators: u32, targets: u32, w: Widths) {
     let mut line = io::buffer();
     let mut at = words::lay_right(&mut line, 0, w.label, b"initiator");
     let mut t = 0;
     while t < targets {
-        let v = SystemLocality::target_value(table, place, initiators, t);
+        let v = SystemLocality::target_value(table, place, initiators as usize, t as usize);
         at = words::lay_number(&mut line, at, w.entry, v as u64);
         t += 1;
     }
@@ -135,9 +138,9 @@ fn lay_entry(line: &mut [u8; 4096], at: usize, width: usize, v: u16) -> usize {
 }
 
 // Initiator i, and its entry for each target.
-fn entry_line(table: &[u8], place: usize, initiators: usize, targets: usize, i: usize, w: Widths) {
+fn entry_line(table: &[u8], place: usize, initiators: u32, targets: u32, i: u32, w: Widths) {
     let mut line = io::buffer();
-    let initiator = SystemLocality::initiator_value(table, place, i);
+    let initiator = SystemLocality::initiator_value(table, place, i as usize);
     let mut at = words::lay_number(&mut line, 0, w.label, initiator as u64);
     let mut t = 0;
     while t < targets {
@@ -149,7 +152,7 @@ fn entry_line(table: &[u8], place: usize, initiators: usize, targets: usize, i: 
 }
 
 // A line for the targets and one for each initiator.
-fn entries(table: &[u8], place: usize, initiators: usize, targets: usize) {
+fn entries(table: &[u8], place: usize, initiators: u32, targets: u32) {
     let w = Widths {
         label: label_width(table, place, initiators),
         entry: entry_width(table, place, initiators, targets),
@@ -164,7 +167,7 @@ fn entries(table: &[u8], place: usize, initiators: usize, targets: usize) {
 
 // A matrix. What its base unit measures depends on the revision that a guest goes by, so that no unit is named.
 pub fn matrix(table: &[u8], place: usize, m: SystemLocality) {
-    matrix_flags(m.flags);
+    matrix_flags(m);
     data_type(m.data_type);
     transfer_size(m.min_transfer_size);
     words::line(b"base unit", m.entry_base_unit);
@@ -173,7 +176,7 @@ pub fn matrix(table: &[u8], place: usize, m: SystemLocality) {
     words::say(b"  entries times ");
     words::number(m.entry_base_unit);
     words::say(b", a line for each initiator, a column for each target, - where unset\n");
-    entries(table, place, m.initiators as usize, m.targets as usize);
+    entries(table, place, m.initiators, m.targets);
 }
 
 // ---- side caches
@@ -181,7 +184,7 @@ pub fn matrix(table: &[u8], place: usize, m: SystemLocality) {
 // How the cache finds a line.
 fn associativity(a: u32) {
     words::say(b", associativity ");
-    match a / 256 % 16 {
+    match a {
         0 => words::say(b"none"),
         1 => words::say(b"direct mapped"),
         _ => words::say(b"complex"),
@@ -189,9 +192,9 @@ fn associativity(a: u32) {
 }
 
 // When the cache writes.
-fn policy(a: u32) {
+fn policy(w: u32) {
     words::say(b", policy ");
-    match a / 4096 % 16 {
+    match w {
         0 => words::say(b"none"),
         1 => words::say(b"writeback"),
         _ => words::say(b"writethrough"),
@@ -199,17 +202,17 @@ fn policy(a: u32) {
 }
 
 // Levels, associativity, policy and line size.
-fn attributes(a: u32) {
+fn attributes(n: MemorySideCache) {
     words::name(b"attributes");
-    words::hex(a as u64);
+    words::hex(n.attributes as u64);
     words::say(b" levels ");
-    words::number((a % 16) as u64);
+    words::number(n.total_cache_levels() as u64);
     words::say(b", this level ");
-    words::number((a / 16 % 16) as u64);
-    associativity(a);
-    policy(a);
+    words::number(n.this_cache_level() as u64);
+    associativity(n.associativity());
+    policy(n.write_policy());
     words::say(b", line size ");
-    words::number((a / 65536) as u64);
+    words::number(n.cacheline_size() as u64);
     words::end();
 }
 
@@ -218,7 +221,7 @@ fn handles(table: &[u8], place: usize, count: usize) {
     let mut i = 0;
     while i < count {
         let handle = MemorySideCache::smbios_handle(table, place, i);
-        words::hex_line(b"SMBIOS handle", handle as u64);
+        words::hex_line(b"SMBIOS handle", handle.0 as u64);
         i += 1;
     }
 }
@@ -227,7 +230,7 @@ fn handles(table: &[u8], place: usize, count: usize) {
 pub fn side(table: &[u8], place: usize, n: MemorySideCache) {
     words::line(b"domain", n.proximity_domain as u64);
     words::line(b"size", n.cache_size);
-    attributes(n.attributes);
+    attributes(n);
     words::line(b"SMBIOS handles", n.smbios_handles as u64);
     handles(table, place, n.smbios_handles as usize);
 }

@@ -101,7 +101,7 @@ fn given(flags: u32, unit: u32, word: &[u8], v: u64) {
 // The first of the attributes; now there are some.
 fn allocation(a: u8) -> bool {
     words::say(b" allocation ");
-    match a % 4 {
+    match a {
         0 => words::say(b"read"),
         1 => words::say(b"write"),
         _ => words::say(b"both"),
@@ -110,9 +110,9 @@ fn allocation(a: u8) -> bool {
 }
 
 // What a cache holds.
-fn kind(a: u8, some: bool) -> bool {
+fn kind(ty: u8, some: bool) -> bool {
     words::item(b"type ", some);
-    match a / 4 % 4 {
+    match ty {
         0 => words::say(b"data"),
         1 => words::say(b"instruction"),
         _ => words::say(b"unified"),
@@ -121,27 +121,27 @@ fn kind(a: u8, some: bool) -> bool {
 }
 
 // When a cache writes.
-fn policy(a: u8, some: bool) {
+fn policy(w: u8, some: bool) {
     words::item(b"policy ", some);
-    match a / 16 % 2 {
+    match w {
         0 => words::say(b"writeback"),
         _ => words::say(b"writethrough"),
     }
 }
 
 // Allocation, type and policy, each where its flag is set.
-fn attributes(flags: u32, a: u8) {
+fn attributes(n: CacheNode) {
     words::name(b"attributes");
-    words::hex(a as u64);
+    words::hex(n.attributes as u64);
     let mut some = false;
-    if flags & CacheNodeBuilder::ALLOCATION != 0 {
-        some = allocation(a);
+    if n.flags & CacheNodeBuilder::ALLOCATION != 0 {
+        some = allocation(n.allocation());
     }
-    if flags & CacheNodeBuilder::TYPE != 0 {
-        some = kind(a, some);
+    if n.flags & CacheNodeBuilder::TYPE != 0 {
+        some = kind(n.cache_type(), some);
     }
-    if flags & CacheNodeBuilder::POLICY != 0 {
-        policy(a, some);
+    if n.flags & CacheNodeBuilder::POLICY != 0 {
+        policy(n.write_policy(), some);
     }
     words::end();
 }
@@ -158,7 +158,7 @@ pub fn cache(table: &[u8], n: CacheNode) {
         b"associativity",
         n.associativity as u64,
     );
-    attributes(n.flags, n.attributes);
+    attributes(n);
     given(
         n.flags,
         CacheNodeBuilder::LINE_SIZE,

@@ -1,24 +1,59 @@
--- What a reading call shows of a node: by computation, for an initiator by its handle.
+-- The form of an initiator by its handle, its fixed values and ranges, and what a reading call shows of a node.
 use mathlib.Core.Path.{_≡_, refl}
-use Prim.Native.Nat.{ℕ}
-use mathlib.Core.List.{List, _∷_}
-use lib.Dec.{eqb}
-use Rattle.format.specs.Bytes.{pick, value, part}
-use Rattle.format.specs.Form.{acpi, pci}
+use Prim.Native.Nat.{ℕ, _/_, _%_, _<_}
+use mathlib.Core.List.{List, [], _∷_}
+use mathlib.Core.Bool.{Bool, true, false}
+use native.Mathlib.Omega.{arith}
+use lib.Dec.{eqb, leb}
+use borrow.Author.Tests.{le-leb}
+use Rattle.format.specs.Bytes.{pick, both, all, at, value, part}
+use Rattle.format.specs.Layout.{asIs, fixedOk}
+use Rattle.format.specs.Form.{acpi, pci, layout, ranges}
 use Rattle.format.specs.Row.{initiators, formIn}
-use Rattle.format.specs.Read.{shown}
+use Rattle.format.specs.Read.{sound, shown}
+use Rattle.laws.proofs.Tests.{both-right}
 use Rattle.laws.proofs.Bytes.{value-byte}
+use Rattle.laws.proofs.Offsets.{fields-at}
+use Rattle.laws.proofs.Fields.{fixed-now}
 use Rattle.srat.specs.declared.Handle.{Handle}
 use Rattle.srat.specs.declared.Handle.the-variants.{Acpi, Pci}
 use Rattle.srat.specs.declared.MemoryAffinity.{MemoryAffinity}
 use Rattle.srat.specs.declared.GenericInitiator.{GenericInitiator}
 use Rattle.srat.specs.declared.RintcAffinity.{RintcAffinity}
-use Rattle.srat.specs.Srat.{handleForm, handleType, memoryNode, initiatorNode, rintcNode, memoryShown, initiatorShown, rintcShown}
+use Rattle.srat.specs.Srat.{handleFixed, handleForm, handleType, memoryNode, initiatorNode, rintcNode, memoryShown, initiatorShown, rintcShown}
 
 -- the number in the byte of the handle says the form of an initiator
 pub initiator-form : (bs : List ℕ) → formIn initiators bs ≡ pick (eqb (value (part bs 3 1)) 0) acpi pci
 unfolding formIn
 initiator-form bs = rw (value-byte bs 3)
+
+-- an initiator's zeros and fixed values, those of the handle in one test
+pub initiator-fixed : (bs : List ℕ)
+    → fixedOk (layout (formIn initiators bs)) bs
+    ≡ all (eqb (value (part bs 0 1)) 5 ∷ eqb (value (part bs 1 1)) 32 ∷ eqb (value (part bs 2 1)) 0 ∷ handleFixed bs ∷ eqb (value (part bs 28 4)) 0 ∷ [])
+unfolding layout handleFixed
+initiator-fixed bs = rw (initiator-form bs) (by (eqb (value (part bs 3 1)) 0) (eqb (value (part bs 3 1)) 1) refl refl)
+  where
+    by : (a b : Bool) → eqb (value (part bs 3 1)) 0 ≡ a → eqb (value (part bs 3 1)) 1 ≡ b
+        → fixedOk (layout (pick a acpi pci)) bs
+        ≡ all (eqb (value (part bs 0 1)) 5 ∷ eqb (value (part bs 1 1)) 32 ∷ eqb (value (part bs 2 1)) 0 ∷ handleFixed bs ∷ eqb (value (part bs 28 4)) 0 ∷ [])
+    by true b e f = rw (fixed-now, e, both-right)
+    by false true e f = rw (fixed-now, e, f, both-right)
+    by false false e f = rw (fixed-now, e, f)
+
+-- flags are what is left to test of an initiator's ranges: device and function share a byte, so that neither can be outside its own
+pub initiator-sound : (bs : List ℕ) → at bs 11 < 256
+    → sound (formIn initiators bs) bs ≡ both (fixedOk (layout (formIn initiators bs)) bs) (leb (value (part bs 24 4)) 3)
+unfolding sound layout ranges
+initiator-sound bs h = rw (initiator-form bs) (by (eqb (value (part bs 3 1)) 0))
+  where
+    l : value (part bs 11 1) < 256
+    l = rw (value-byte bs 11) at h
+
+    by : (b : Bool) → sound (pick b acpi pci) bs ≡ both (fixedOk (layout (pick b acpi pci)) bs) (leb (value (part bs 24 4)) 3)
+    by true = rw (fields-at asIs (layout acpi) bs 0)
+    by false =
+        rw (fields-at asIs (layout pci) bs 0, le-leb (value (part bs 11 1) / 8) 31 (omega (arith, l)), le-leb (value (part bs 11 1) % 8) 7 (omega (arith, l)))
 
 pub memory-shown : (m : MemoryAffinity) → memoryShown m ≡ shown (memoryNode m .form) (memoryNode m .values)
 unfolding shown

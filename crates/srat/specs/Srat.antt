@@ -1,7 +1,10 @@
 -- What the records of SRAT are in the words of the format, and what constructors and setters make of them.
 use Prim.Native.Nat.{ℕ, _^_}
 use mathlib.Core.List.{List, [], _∷_, _++_}
+use mathlib.Core.Bool.{Bool, false}
 use lib.Bits.{bitOr}
+use lib.Dec.{eqb}
+use Rattle.format.specs.Bytes.{pick, value, part}
 use Rattle.format.specs.Form.{Form, memory, acpi, pci, rintc}
 use Rattle.format.specs.Node.{Node, node}
 use Rattle.srat.specs.declared.Handle.{Handle}
@@ -26,6 +29,12 @@ handleType (Pci s b d f) = 1
 abbrev pub handleValues : Handle → List ℕ
 handleValues (Acpi h u) = h ∷ u ∷ []
 handleValues (Pci s b d f) = s ∷ b ∷ d ∷ f ∷ []
+
+-- the handle type of a record, and the zeros behind the handle: 4 behind hid and uid, 12 behind device and function
+unfoldable pub handleFixed : List ℕ → Bool
+handleFixed bs =
+    let ty : ℕ = value (part bs 3 1) in
+    pick (eqb ty 0) (eqb (value (part bs 20 4)) 0) (pick (eqb ty 1) (eqb (value (part bs 12 12)) 0) false)
 
 -- ---- nodes of the format
 

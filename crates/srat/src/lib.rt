@@ -1,14 +1,19 @@
-// The records of SRAT, the table that defines proximity domains.
+// The nodes of SRAT, the table that defines proximity domains, each with its two writings: a record of the table, and a kind byte with a
+// body of a recipe. What an SRAT's record is, by constants, places and ranges, stands here alone.
 ghost use mathlib.Core.Path.{_≡_};
 ghost use mathlib.Core.List.{_∷_, []};
 ghost use Prim.Native.Nat.{_%_};
-ghost use lib.ListN.{drop};
-ghost use Rattle.format.specs.Bytes.{over};
-ghost use Rattle.format.specs.Layout.{two, number, asIs};
-ghost use Rattle.format.specs.Form.{memory, acpi, pci, rintc, size};
+ghost use lib.ListN.{length, drop};
+ghost use lib.Dec.{eqb, leb};
+ghost use Rattle.format.specs.Bytes.{pick, value, part, over};
+ghost use Rattle.format.specs.Layout.{two, number, asIs, fields, fixedOk};
+ghost use Rattle.format.specs.Form.{memory, acpi, pci, rintc, size, layout};
 ghost use Rattle.format.specs.Node.{node, bytes, nodeAt};
+ghost use Rattle.format.specs.Kind.{Memory, Acpi, Pci, Rintc, body};
+ghost use Rattle.format.specs.Field.{callsOfNode, badField};
 ghost use Rattle.format.specs.Row.{initiators, formIn};
-ghost use Rattle.srat.specs.Srat.{memoryNode, initiatorNode, rintcNode, memoryOf, memoryWith, initiatorOf, initiatorWith, rintcOf, rintcWith};
+ghost use Rattle.format.specs.Read.{sound};
+ghost use Rattle.srat.specs.Srat.{handleFixed, memoryNode, initiatorNode, rintcNode, memoryOf, memoryWith, initiatorOf, initiatorWith, rintcOf, rintcWith};
 
 pub struct MemoryAffinity {
     pub proximity_domain: u32,
@@ -18,6 +23,11 @@ pub struct MemoryAffinity {
 }
 
 impl MemoryAffinity {
+    // The kind byte, and the length of the body behind it.
+    pub const KIND: u8 = 32;
+
+    pub const BODY: usize = 21;
+
     pub const TYPE: u8 = 1;
 
     pub const LEN: usize = 40;
@@ -27,6 +37,14 @@ impl MemoryAffinity {
     pub const HOT_PLUGGABLE: u32 = 2;
 
     pub const NON_VOLATILE: u32 = 4;
+
+    // All flags, and where they stand in a body.
+    const FLAGS: u32 = 7;
+
+    const FLAGS_AT: usize = 20;
+
+    // Kind, domain, base, length, flags.
+    const BODY_WIDTHS: [usize; 5] = [1, 4, 8, 8, 1];
 
     // Type, length, domain, 2 zero, base, length, 4 zero, flags, 8 zero.
     const WIDTHS: [usize; 9] = [1, 1, 4, 2, 8, 8, 4, 4, 8];
@@ -99,6 +117,73 @@ impl MemoryAffinity {
             flags: field::get_u32(s, 28),
         }
     }
+
+    // Zeros and fixed values of a record.
+    pub fn is_fixed(row: &[u8]) -> bool
+        ensures { λ r. ⌜ r ≡ fixedOk (layout memory) (now (row .entry)) ⌝ }
+    {
+        if field::get_u8(row, 0) != Self::TYPE {
+            return false;
+        }
+        if field::get_u8(row, 1) as usize != Self::LEN {
+            return false;
+        }
+        if field::get_u16(row, 6) != 0 {
+            return false;
+        }
+        if field::get_u32(row, 24) != 0 {
+            return false;
+        }
+        field::get_u64(row, 32) == 0
+    }
+
+    // The node of a body.
+    pub fn from_body(bytes: &[u8]) -> Self
+        ensures { λ r. ⌜ memoryNode r ≡ node memory (fields (body Memory) (now (bytes .entry))) ⌝ }
+    {
+        Self {
+            proximity_domain: field::get_u32(bytes, 0),
+            base_address: field::get_u64(bytes, 4),
+            length: field::get_u64(bytes, 12),
+            flags: field::get_u8(bytes, Self::FLAGS_AT) as u32,
+        }
+    }
+
+    // Writes kind byte and body; how many bytes that is.
+    pub fn put_body(self, out: &mut [u8], at: usize) -> usize
+        ensures { λ _. ⌜ now (out .exit) ≡ over (now (out .entry)) at (callsOfNode (memoryNode self)) ⌝ }
+        ensures { λ r. ⌜ r ≡ length (callsOfNode (memoryNode self)) ⌝ }
+    {
+        let vs = [
+            Self::KIND as u64,
+            self.proximity_domain as u64,
+            self.base_address,
+            self.length,
+            self.flags as u64,
+        ];
+        field::put_all(out, at, &Self::BODY_WIDTHS, &vs);
+        1 + Self::BODY
+    }
+
+    // The place of the first field outside its range, counted from the kind byte; 0 for none.
+    pub fn bad_field(self) -> usize
+        ensures { λ r. ⌜ r ≡ badField (memoryNode self) ⌝ }
+    {
+        if Self::FLAGS < self.flags {
+            return 1 + Self::FLAGS_AT;
+        }
+        0
+    }
+
+    // Whether a record is fixed where it has to be, and no field outside its range.
+    pub fn is_sound(row: &[u8]) -> bool
+        ensures { λ r. ⌜ r ≡ sound memory (now (row .entry)) ⌝ }
+    {
+        if !Self::is_fixed(row) {
+            return false;
+        }
+        Self::get(row, 0).bad_field() == 0
+    }
 }
 
 // Which device an initiator is. An enum holds no arrays here: hid and uid are the numbers that their bytes stand for.
@@ -119,6 +204,10 @@ impl Handle {
     pub const ACPI: u8 = 0;
 
     pub const PCI: u8 = 1;
+
+    const MAX_DEVICE: u8 = 31;
+
+    const MAX_FUNCTION: u8 = 7;
 
     pub fn new_acpi(hid: u64, uid: u32) -> Self
         ensures { λ r. ⌜ r ≡ Handle.Acpi hid uid ⌝ }
@@ -145,6 +234,27 @@ impl Handle {
     {
         ((device as u16 * 8 + function as u16) % 256) as u8
     }
+
+    // Twelve zeros behind device and function.
+    fn is_pci_fixed(row: &[u8]) -> bool
+        ensures { λ r. ⌜ r ≡ eqb (value (part (now (row .entry)) 12 12)) 0 ⌝ }
+    {
+        if field::get_u32(row, 12) != 0 {
+            return false;
+        }
+        field::get_u64(row, 16) == 0
+    }
+
+    // The handle type of an initiator's record, and the zeros behind the handle.
+    fn is_fixed(row: &[u8]) -> bool
+        ensures { λ r. ⌜ r ≡ handleFixed (now (row .entry)) ⌝ }
+    {
+        match field::get_u8(row, 3) {
+            Self::ACPI => field::get_u32(row, 20) == 0,
+            Self::PCI => Self::is_pci_fixed(row),
+            _ => false,
+        }
+    }
 }
 
 pub struct GenericInitiator {
@@ -154,6 +264,15 @@ pub struct GenericInitiator {
 }
 
 impl GenericInitiator {
+    // The kind bytes by handle, and the lengths of the bodies behind them.
+    pub const ACPI_KIND: u8 = 33;
+
+    pub const PCI_KIND: u8 = 34;
+
+    pub const ACPI_BODY: usize = 17;
+
+    pub const PCI_BODY: usize = 10;
+
     pub const TYPE: u8 = 5;
 
     pub const LEN: usize = 32;
@@ -161,6 +280,24 @@ impl GenericInitiator {
     pub const ENABLED: u32 = 1;
 
     pub const ARCHITECTURAL: u32 = 2;
+
+    // All flags, and where they stand in a body.
+    const FLAGS: u32 = 3;
+
+    const ACPI_FLAGS_AT: usize = 16;
+
+    const PCI_FLAGS_AT: usize = 9;
+
+    // Where device and function stand in a body.
+    const DEVICE_AT: usize = 7;
+
+    const FUNCTION_AT: usize = 8;
+
+    // Kind, domain, hid, uid, flags.
+    const ACPI_BODY_WIDTHS: [usize; 5] = [1, 4, 8, 4, 1];
+
+    // Kind, domain, segment, bus, device, function, flags.
+    const PCI_BODY_WIDTHS: [usize; 7] = [1, 4, 2, 1, 1, 1, 1];
 
     // Type, length, 0, handle type, domain, hid, uid, 4 zero, flags, 4 zero.
     const ACPI_WIDTHS: [usize; 10] = [1, 1, 1, 1, 4, 8, 4, 4, 4, 4];
@@ -282,6 +419,164 @@ impl GenericInitiator {
             flags,
         }
     }
+
+    // Zeros, fixed values and handle type of a record.
+    pub fn is_fixed(row: &[u8]) -> bool
+        ensures { λ r. ⌜ r ≡ fixedOk (layout (formIn initiators (now (row .entry)))) (now (row .entry)) ⌝ }
+    {
+        if field::get_u8(row, 0) != Self::TYPE {
+            return false;
+        }
+        if field::get_u8(row, 1) as usize != Self::LEN {
+            return false;
+        }
+        if field::get_u8(row, 2) != 0 {
+            return false;
+        }
+        if !Handle::is_fixed(row) {
+            return false;
+        }
+        field::get_u32(row, 28) == 0
+    }
+
+    // The node of an ACPI device's body.
+    pub fn from_acpi_body(bytes: &[u8]) -> Self
+        ensures { λ r. ⌜ initiatorNode r ≡ node acpi (fields (body Acpi) (now (bytes .entry))) ⌝ }
+    {
+        let handle = Handle::new_acpi(field::get_u64(bytes, 4), field::get_u32(bytes, 12));
+        Self {
+            proximity_domain: field::get_u32(bytes, 0),
+            handle,
+            flags: field::get_u8(bytes, Self::ACPI_FLAGS_AT) as u32,
+        }
+    }
+
+    // The node of a PCI device's body.
+    pub fn from_pci_body(bytes: &[u8]) -> Self
+        ensures { λ r. ⌜ initiatorNode r ≡ node pci (fields (body Pci) (now (bytes .entry))) ⌝ }
+    {
+        let handle = Handle::new_pci(
+            field::get_u16(bytes, 4),
+            field::get_u8(bytes, 6),
+            field::get_u8(bytes, Self::DEVICE_AT),
+            field::get_u8(bytes, Self::FUNCTION_AT),
+        );
+        Self {
+            proximity_domain: field::get_u32(bytes, 0),
+            handle,
+            flags: field::get_u8(bytes, Self::PCI_FLAGS_AT) as u32,
+        }
+    }
+
+    // Writes kind byte and body of an ACPI device.
+    fn put_acpi_body(self, hid: u64, uid: u32, out: &mut [u8], at: usize) -> usize
+        ensures { λ _. ⌜ now (out .exit) ≡ over (now (out .entry)) at (callsOfNode (node acpi (self .«proximity_domain» ∷ hid ∷ uid ∷ self .flags ∷ []))) ⌝ }
+        ensures { λ r. ⌜ r ≡ length (callsOfNode (node acpi (self .«proximity_domain» ∷ hid ∷ uid ∷ self .flags ∷ []))) ⌝ }
+    {
+        let vs = [
+            Self::ACPI_KIND as u64,
+            self.proximity_domain as u64,
+            hid,
+            uid as u64,
+            self.flags as u64,
+        ];
+        field::put_all(out, at, &Self::ACPI_BODY_WIDTHS, &vs);
+        1 + Self::ACPI_BODY
+    }
+
+    // Writes kind byte and body of a PCI device.
+    fn put_pci_body(
+        self,
+        segment: u16,
+        bus: u8,
+        device: u8,
+        function: u8,
+        out: &mut [u8],
+        at: usize,
+    ) -> usize
+        ensures { λ _. ⌜ now (out .exit) ≡ over (now (out .entry)) at (callsOfNode (node pci (self .«proximity_domain» ∷ segment ∷ bus ∷ device ∷ function ∷ self .flags ∷ []))) ⌝ }
+        ensures { λ r. ⌜ r ≡ length (callsOfNode (node pci (self .«proximity_domain» ∷ segment ∷ bus ∷ device ∷ function ∷ self .flags ∷ []))) ⌝ }
+    {
+        let vs = [
+            Self::PCI_KIND as u64,
+            self.proximity_domain as u64,
+            segment as u64,
+            bus as u64,
+            device as u64,
+            function as u64,
+            self.flags as u64,
+        ];
+        field::put_all(out, at, &Self::PCI_BODY_WIDTHS, &vs);
+        1 + Self::PCI_BODY
+    }
+
+    // Writes kind byte and body; how many bytes that is.
+    pub fn put_body(self, out: &mut [u8], at: usize) -> usize
+        ensures { λ _. ⌜ now (out .exit) ≡ over (now (out .entry)) at (callsOfNode (initiatorNode self)) ⌝ }
+        ensures { λ r. ⌜ r ≡ length (callsOfNode (initiatorNode self)) ⌝ }
+    {
+        let handle = self.handle;
+        match handle {
+            Handle::Acpi { hid, uid } => self.put_acpi_body(hid, uid, out, at),
+            Handle::Pci {
+                segment,
+                bus,
+                device,
+                function,
+            } => self.put_pci_body(segment, bus, device, function, out, at),
+        }
+    }
+
+    fn bad_acpi(flags: u32) -> usize
+        ensures { λ r. ⌜ r ≡ pick (leb flags 3) 0 17 ⌝ }
+    {
+        if Self::FLAGS < flags {
+            return 1 + Self::ACPI_FLAGS_AT;
+        }
+        0
+    }
+
+    fn bad_pci(device: u8, function: u8, flags: u32) -> usize
+        ensures { λ r. ⌜ r ≡ pick (leb device 31) (pick (leb function 7) (pick (leb flags 3) 0 10) 9) 8 ⌝ }
+    {
+        if Handle::MAX_DEVICE < device {
+            return 1 + Self::DEVICE_AT;
+        }
+        if Handle::MAX_FUNCTION < function {
+            return 1 + Self::FUNCTION_AT;
+        }
+        if Self::FLAGS < flags {
+            return 1 + Self::PCI_FLAGS_AT;
+        }
+        0
+    }
+
+    // The place of the first field outside its range, counted from the kind byte; 0 for none.
+    pub fn bad_field(self) -> usize
+        ensures { λ r. ⌜ r ≡ badField (initiatorNode self) ⌝ }
+    {
+        let handle = self.handle;
+        let flags = self.flags;
+        match handle {
+            Handle::Acpi { hid: _, uid: _ } => Self::bad_acpi(flags),
+            Handle::Pci {
+                segment: _,
+                bus: _,
+                device,
+                function,
+            } => Self::bad_pci(device, function, flags),
+        }
+    }
+
+    // Whether a record is fixed where it has to be, and no field outside its range.
+    pub fn is_sound(row: &[u8]) -> bool
+        ensures { λ r. ⌜ r ≡ sound (formIn initiators (now (row .entry))) (now (row .entry)) ⌝ }
+    {
+        if !Self::is_fixed(row) {
+            return false;
+        }
+        field::get_u32(row, 24) <= Self::FLAGS
+    }
 }
 
 pub struct RintcAffinity {
@@ -291,11 +586,24 @@ pub struct RintcAffinity {
 }
 
 impl RintcAffinity {
+    // The kind byte, and the length of the body behind it.
+    pub const KIND: u8 = 35;
+
+    pub const BODY: usize = 9;
+
     pub const TYPE: u8 = 7;
 
     pub const LEN: usize = 16;
 
     pub const ENABLED: u32 = 1;
+
+    // All flags, and where they stand in a body.
+    const FLAGS: u32 = 1;
+
+    const FLAGS_AT: usize = 4;
+
+    // Kind, uid, flags, clock domain.
+    const BODY_WIDTHS: [usize; 4] = [1, 4, 1, 4];
 
     // Type, length, 2 zero, uid, flags, clock domain.
     const WIDTHS: [usize; 6] = [1, 1, 2, 4, 4, 4];
@@ -348,5 +656,64 @@ impl RintcAffinity {
             flags: field::get_u32(s, 8),
             clock_domain: field::get_u32(s, 12),
         }
+    }
+
+    // Zeros and fixed values of a record.
+    pub fn is_fixed(row: &[u8]) -> bool
+        ensures { λ r. ⌜ r ≡ fixedOk (layout rintc) (now (row .entry)) ⌝ }
+    {
+        if field::get_u8(row, 0) != Self::TYPE {
+            return false;
+        }
+        if field::get_u8(row, 1) as usize != Self::LEN {
+            return false;
+        }
+        field::get_u16(row, 2) == 0
+    }
+
+    // The node of a body.
+    pub fn from_body(bytes: &[u8]) -> Self
+        ensures { λ r. ⌜ rintcNode r ≡ node rintc (fields (body Rintc) (now (bytes .entry))) ⌝ }
+    {
+        Self {
+            acpi_processor_uid: field::get_u32(bytes, 0),
+            flags: field::get_u8(bytes, Self::FLAGS_AT) as u32,
+            clock_domain: field::get_u32(bytes, 5),
+        }
+    }
+
+    // Writes kind byte and body; how many bytes that is.
+    pub fn put_body(self, out: &mut [u8], at: usize) -> usize
+        ensures { λ _. ⌜ now (out .exit) ≡ over (now (out .entry)) at (callsOfNode (rintcNode self)) ⌝ }
+        ensures { λ r. ⌜ r ≡ length (callsOfNode (rintcNode self)) ⌝ }
+    {
+        let vs = [
+            Self::KIND as u64,
+            self.acpi_processor_uid as u64,
+            self.flags as u64,
+            self.clock_domain as u64,
+        ];
+        field::put_all(out, at, &Self::BODY_WIDTHS, &vs);
+        1 + Self::BODY
+    }
+
+    // The place of the first field outside its range, counted from the kind byte; 0 for none.
+    pub fn bad_field(self) -> usize
+        ensures { λ r. ⌜ r ≡ badField (rintcNode self) ⌝ }
+    {
+        if Self::FLAGS < self.flags {
+            return 1 + Self::FLAGS_AT;
+        }
+        0
+    }
+
+    // Whether a record is fixed where it has to be, and no field outside its range.
+    pub fn is_sound(row: &[u8]) -> bool
+        ensures { λ r. ⌜ r ≡ sound rintc (now (row .entry)) ⌝ }
+    {
+        if !Self::is_fixed(row) {
+            return false;
+        }
+        Self::get(row, 0).bad_field() == 0
     }
 }

@@ -1,6 +1,6 @@
 -- `put_cells` meets its contract. The invariant: the cells so far have gone on to the same meaning. The measure is what is left of the recipe.
 use mathlib.Core.Path.{_≡_, refl}
-use Prim.Native.Nat.{_-_, _≤_}
+use Prim.Native.Nat.{_+_, _-_, _≤_}
 use native.Mathlib.Omega.{arith}
 use borrow.Author.Needs.{needs}
 use lib.ListN.{length}
@@ -9,6 +9,7 @@ use Rattle.header.specs.Header.{meant}
 use Rattle.build.specs.declared.State.{State}
 use Rattle.build.specs.Held.{Goes}
 use Rattle.build.proofs.Steps.{small}
+use Rattle.build.proofs.Places.{target-exact}
 use Rattle.build.proofs.Cells.{held-at, cell-whole, cell-in, cell-goes}
 use Rattle.build.proofs.put_cells.Statement.{statement}
 use Rattle.build.proofs.put_cells.Tie as tie
@@ -25,57 +26,58 @@ abbrev μ-loop : tie.MeasureT-loop
 returns : tie.Need-returns Inv-loop μ-loop
 returns c = (search needs, λ xs m h. h)
 
-add-cells : tie.Need-add-cells Inv-loop μ-loop
-add-cells c = let b = c .before .before .before .before .before .before .before in omega (arith, small (b .args .recipe .now) (meant (b .args .table)) (b .args .s) (b .args .out .now) (b .pre) .place)
-
-add-cells-2 : tie.Need-add-cells-2 Inv-loop μ-loop
-add-cells-2 c = let b = c .before .before .before .before .before .before .before .before in omega (arith, small (b .args .recipe .now) (meant (b .args .table)) (b .args .s) (b .args .out .now) (b .pre) .place)
-
-add-cells-3 : tie.Need-add-cells-3 Inv-loop μ-loop
-add-cells-3 c = let b = c .before .before .before .before .before .before .before .before in omega (arith, small (b .args .recipe .now) (meant (b .args .table)) (b .args .s) (b .args .out .now) (b .pre) .place)
-
 loop-holds : tie.Need-loop-holds Inv-loop μ-loop
 loop-holds c = (refl, search needs, λ xs m h. h)
 
 returns-2 : tie.Need-returns-2 Inv-loop μ-loop
-returns-2 c = let i = c .before .before .before .loop .inv in rw (c .before .before .before .before .before .before .before .before .before .before .enum-told .given .1) (i .1, i .2)
+returns-2 c = let i = c .before .before .before .loop .inv in rw (c .before .before .before .before .before .before .before .before .before .enum-told .given .1) (i .1, i .2)
 
 put-cell-requires : tie.Need-put-cell-requires Inv-loop μ-loop
 put-cell-requires c κs =
-    let b = c .before .before .before .before .before .before .before .before .before .before .before .before .before .before .before in
+    let l = c .before .before .before .before .loop in
+    let p = c .before .before .before .before .before .before .before in
+    let t = p .before .before .before in
+    let b = t .before .before .before .before in
     let a = b .args in
     let y = b .pre in
-    let l = c .before .before .before .before .loop in
     let s : State = record { at = l .at; end = a .s .end; latest = a .s .latest; sum = l .sum; marks = a .s .marks } in
-    let h = held-at (a .recipe .now) (a .table) (a .s) s (a .out .now) (l .out) (c .before .before .before .before .before .before .before .before .before .before .before .enum-told .given .1) y (l .inv .2) in (
+    let h = held-at (a .recipe .now) (a .table) (a .s) s (a .out .now) (l .out) (t .enum-told .given .1) y (l .inv .2) in
+    let z = target-exact (a .s .latest .place) (a .s .latest .initiators) (a .s .latest .targets) _ (small (a .recipe .now) (meant (a .table)) (a .s) (a .out .now) y .place) (omega (arith, p .before .struct-known .given)) (omega (arith, p .before .struct-known .given)) (p .target-place .ensures) in (
       cell-whole (y .start) (a .recipe .now) (y .meant) s (l .out) h (c .before .before .before .loop-test .taken) (c .before .if1 .left),
-      cell-in (y .start) (a .recipe .now) (y .meant) s (l .out) h (c .before .before .before .loop-test .taken) (c .before .if1 .left),
+      rw z (cell-in (y .start) (a .recipe .now) (y .meant) s (l .out) h (c .before .before .before .loop-test .taken) (c .before .if1 .left)),
     )
 
-add-at : tie.Need-add-at Inv-loop μ-loop
-add-at c =
-    let b = c .before .before .before .before .before .before .before .before .before .before .before .before .before .before .before .before .before .before in
+add-at-2 : tie.Need-add-at-2 Inv-loop μ-loop
+add-at-2 c =
+    let e = c .before .before .before .before in
+    let l = e .before .before .before .loop in
+    let t = e .before .before .before .before .before .before .before .before .before in
+    let b = t .before .before .before .before in
     let a = b .args in
     let y = b .pre in
-    let l = c .before .before .before .before .before .before .before .loop in
     let s : State = record { at = l .at; end = a .s .end; latest = a .s .latest; sum = l .sum; marks = a .s .marks } in
-    let h = held-at (a .recipe .now) (a .table) (a .s) s (a .out .now) (l .out) (c .before .before .before .before .before .before .before .before .before .before .before .before .before .before .enum-told .given .1) y (l .inv .2) in
-    let w = cell-whole (y .start) (a .recipe .now) (y .meant) s (l .out) h (c .before .before .before .before .before .before .loop-test .taken) (c .before .before .before .before .if1 .left) in
+    let h = held-at (a .recipe .now) (a .table) (a .s) s (a .out .now) (l .out) (t .enum-told .given .1) y (l .inv .2) in
+    let w = cell-whole (y .start) (a .recipe .now) (y .meant) s (l .out) h (e .before .before .loop-test .taken) (e .if1 .left) in
     omega (arith, w)
 
 loop-again : tie.Need-loop-again Inv-loop μ-loop
 loop-again c =
-    let a = c .before .before .before .before .before .before .before .before .before .before .before .before .before .before .before .before .before .before .args in
-    let l = c .before .before .before .before .before .before .before .loop in
+    let e = c .before .before .before .before in
+    let l = e .before .before .before .loop in
+    let p = e .before .before .before .before .before .before in
+    let b = p .before .before .before .before .before .before .before in
+    let a = b .args in
     let s : State = record { at = l .at; end = a .s .end; latest = a .s .latest; sum = l .sum; marks = a .s .marks } in
-    let p = c .before .before .put-cell in (
+    let z = target-exact (a .s .latest .place) (a .s .latest .initiators) (a .s .latest .targets) _ (small (a .recipe .now) (meant (a .table)) (a .s) (a .out .now) (b .pre) .place) (omega (arith, p .before .struct-known .given)) (omega (arith, p .before .struct-known .given)) (p .target-place .ensures) in
+    let q = c .before .before .put-cell in
+    let five : l .at + 1 + 4 ≡ l .at + 5 = omega arith in (
       search needs,
       omega (arith, l .inv .1),
-      λ xs m h. cell-goes xs (a .recipe .now) m s (l .out) (l .inv .2 xs m h) (c .before .before .before .before .before .before .loop-test .taken) (c .before .before .before .before .if1 .left) _ _ (p .ensures .0) (p .ensures .1),
+      λ xs m h. rw five (cell-goes xs (a .recipe .now) m s (l .out) (l .inv .2 xs m h) (e .before .before .loop-test .taken) (e .if1 .left) _ _ (rw z at (q .ensures .0)) (rw z at (q .ensures .1))),
     )
 
 returns-3 : tie.Need-returns-3 Inv-loop μ-loop
-returns-3 c = let i = c .before .loop .inv in rw (c .before .before .before .before .before .before .before .before .enum-told .given .1) (i .1, i .2)
+returns-3 c = let i = c .before .loop .inv in rw (c .before .before .before .before .before .before .before .enum-told .given .1) (i .1, i .2)
 
 pub put-cells-spec : {M : Type 1} → statement M
 put-cells-spec =
@@ -86,18 +88,15 @@ put-cells-spec =
     (λ c. search needs)
     returns
     (λ c. search needs)
-    add-cells
     (λ c. search needs)
-    (λ c. search needs)
-    add-cells-2
-    (λ c. search needs)
-    add-cells-3
+    (λ c κs. search needs)
     loop-holds
     (λ c. search needs)
     (λ c. search needs)
     returns-2
     put-cell-requires
-    add-at
+    (λ c. search needs)
+    add-at-2
     (λ c. search needs)
     loop-again
     (λ c. search needs)

@@ -1,17 +1,22 @@
--- `set_target` meets its contract: each field of the body stands at its place, and the node says them in the order of the layout.
+-- `set_target` meets its contract: the fields of the body are those of the setting, which goes to its place.
 use borrow.Author.Needs.{needs}
-use mathlib.Core.Path.{_∙_}
-use Rattle.format.specs.Layout.{asIs}
-use Rattle.format.specs.Node.{bytes}
-use Rattle.format.specs.Kind.{Target, body}
-use Rattle.laws.proofs.Offsets.{fields-at}
-use Rattle.build.specs.Write.{wrote}
+use mathlib.Core.Path.{ap, _∙_}
+use mathlib.Core.List.{List}
+use Prim.Native.Nat.{ℕ}
+use Rattle.format.specs.Bytes.{at}
+use Rattle.format.specs.Kind.{body}
+use Rattle.laws.specs.Settings.{target}
+use Rattle.build.specs.Write.{wrote, sets}
 use Rattle.build.proofs.set_target.Statement.{statement}
 use Rattle.build.proofs.set_target.Tie as tie
 
 returns : tie.Need-returns
 unfolding wrote body
-returns c = c .before .before .set-target-value .ensures ∙ rw (fields-at asIs (body Target) (c .before .before .before .before .before .before .before .before .before .before .args .bytes .now) 0, c .before .before .before .before .before .before .get-u8 .ensures, c .before .before .before .before .before .get-u32 .ensures)
+returns c =
+    let w = c .before .before in
+    let x = w .before .before .before .before in
+    let a = x .before .before .before .before .args in
+    w .set-target-value .ensures ∙ ap (λ (vs : List ℕ). sets (a .s) (target (at vs 0) (at vs 1)) (a .out .now)) (x .from-body .ensures)
 
 pub set-target-spec : {M : Type 1} → statement M
 set-target-spec =
@@ -19,7 +24,6 @@ set-target-spec =
     (tie.spec
     (λ c κs. search needs)
     (λ c. search needs)
-    (λ c κs. search needs)
     (λ c. search needs)
     (λ c κs. search needs)
     (λ c. search needs)

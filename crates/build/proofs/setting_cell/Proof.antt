@@ -1,49 +1,33 @@
--- `setting_cell` meets its contract: the indices stand in the first two bytes of the body, and a product of bytes is small.
+-- `setting_cell` meets its contract: the indices and the counts are small, so the place is exact.
 use borrow.Author.Needs.{needs}
-use mathlib.Core.Path.{_∙_}
+use mathlib.Core.Path.{ap, _∙_}
+use mathlib.Core.List.{List}
+use Prim.Native.Nat.{ℕ}
 use native.Mathlib.Omega.{arith}
-use Rattle.format.specs.Layout.{asIs}
-use Rattle.laws.proofs.Offsets.{fields-at}
-use Rattle.build.specs.Write.{changeOf}
-use Rattle.build.proofs.Numbers.{small}
-use Rattle.format.specs.Kind.{Cell, body}
+use Rattle.format.specs.Bytes.{at}
+use Rattle.laws.specs.Settings.{cell}
+use Rattle.build.specs.Write.{setting, changeOf}
+use Rattle.build.proofs.Places.{cell-exact}
 use Rattle.build.proofs.setting_cell.Statement.{statement}
 use Rattle.build.proofs.setting_cell.Tie as tie
 
-mul-setting-3 : tie.Need-mul-setting-3
-mul-setting-3 c = let m = small (c .before .before .get-u8 .result) (c .before .before .before .before .before .before .before .args .s .latest .targets) (search needs) (search needs) in omega arith
-
-add-setting-4 : tie.Need-add-setting-4
-add-setting-4 c = let m = small (c .before .before .get-u8 .result) (c .before .before .before .before .before .before .before .args .s .latest .targets) (search needs) (search needs) in omega arith
-
-mul-setting-4 : tie.Need-mul-setting-4
-mul-setting-4 c = let m = small (c .before .before .get-u8 .result) (c .before .before .before .before .before .before .before .args .s .latest .targets) (search needs) (search needs) in omega arith
-
-add-setting-5 : tie.Need-add-setting-5
-add-setting-5 c = let m = small (c .before .before .get-u8 .result) (c .before .before .before .before .before .before .before .args .s .latest .targets) (search needs) (search needs) in omega arith
-
 returns : tie.Need-returns
-unfolding changeOf body
-returns c = c .setting .ensures ∙ rw (fields-at asIs (body Cell) (c .before .before .before .before .before .before .before .before .args .bytes .now) 0, c .before .before .before .get-u8 .ensures, c .before .before .get-u82 .ensures)
+unfolding changeOf
+returns c =
+    let p = c .before in
+    let x = p .before .before .before in
+    let y = x .before .before .before in
+    let l = y .args .s .latest in
+    let z = cell-exact (l .place) (l .initiators) (l .targets) (x .from-body .result .«initiator_idx») (x .from-body .result .«target_idx») _ (y .pre .place) (omega (arith, y .good)) (omega (arith, y .good)) (omega (arith, p .before .before .struct-known .given)) (omega (arith, p .before .struct-known2 .given)) (p .cell-place .ensures) in
+    c .setting .ensures ∙ rw z (ap (λ (vs : List ℕ). setting (y .args .s) (cell (at vs 0) (at vs 1) (at vs 2))) (x .from-body .ensures))
 
 pub setting-cell-spec : {M : Type 1} → statement M
 setting-cell-spec =
     tie.close
     (tie.spec
-    (λ c. search needs)
-    (λ c. search needs)
-    (λ c κs. search needs)
-    (λ c. search needs)
     (λ c κs. search needs)
     (λ c. search needs)
     (λ c. search needs)
-    (λ c. search needs)
-    (λ c. search needs)
-    (λ c. search needs)
-    (λ c. search needs)
-    mul-setting-3
-    add-setting-4
-    mul-setting-4
-    add-setting-5
+    (λ c κs. search needs)
     (λ c κs. search needs)
     returns)

@@ -10,7 +10,7 @@ use Rattle.format.specs.Bytes.{sum}
 use Rattle.format.specs.Kind.{kindOf}
 use Rattle.format.specs.Build.{checkOf}
 use Rattle.header.specs.Header.{meant}
-use Rattle.recipe.specs.Kinds.{meantKind, named}
+use Rattle.recipe.specs.Kinds.{meantKind, named, ordinalIn}
 use Rattle.build.proofs.Steps.{small, whole, leads-there, in-limit, stepped, unknown}
 use Rattle.build.proofs.step.Statement.{statement}
 use Rattle.build.proofs.step.Tie as tie
@@ -32,29 +32,14 @@ add-next c =
     let r = a .recipe .now in
     let t = meant (a .table) in
     let y = b .pre .1 in
-    let k = meantKind (c .before .before .kind .given .0 .0) in
-    let e : kindOf t (getD r (a .s .at) 0) ≡ some k = sym (c .before .before .before .before .kind-of .ensures) ∙ ap named (c .before .before .kind .given .1) in
+    let kind = c .before .before .kind .given in
+    let k = meantKind (kind .0 .0) in
+    let e : kindOf t (getD r (a .s .at) 0) ≡ some k = sym (c .before .before .before .before .kind-of .ensures) ∙ ap named (kind .1) in
     let l = whole (y .start) r t (y .meant) (a .s) (a .out .now) (y .holds) k (b .pre .0) e in
     omega (arith, c .body-len .ensures)
 
 change-of-requires : tie.Need-change-of-requires
 change-of-requires c κs = let b = c .before .before .before .before .before .before .before .before .before in small (b .args .recipe .now) (meant (b .args .table)) (b .args .s) (b .args .out .now) (b .pre .1)
-
-looked-requires : tie.Need-looked-requires
-looked-requires c κs =
-    let b = c .before .before .before .before .before .before .before .before .before .before .before .before .before .before .before .before in
-    let a = b .args in
-    let r = a .recipe .now in
-    let t = meant (a .table) in
-    let y = b .pre .1 in
-    let k = meantKind (c .before .before .before .before .before .before .before .before .before .before .kind .given .0 .0) in
-    let e : kindOf t (getD r (a .s .at) 0) ≡ some k = sym (c .before .before .before .before .before .before .before .before .before .before .before .before .kind-of .ensures) ∙ ap named (c .before .before .before .before .before .before .before .before .before .before .kind .given .1) in
-    leads-there (y .start) r t (y .meant) (a .s) (a .out .now) (y .holds) k (b .pre .0) e (c .before .before .before .before .before .before .before .rest .result .now) (c .before .before .before .before .before .before .change-of .result) (c .before .before .before .before .before .before .before .rest .ensures) (c .before .before .before .before .before .before .change-of .ensures)
-
-put-requires : tie.Need-put-requires
-put-requires c κs =
-    let b = c .before .before .before .before .before .before .before .before .before .before .before .before .before .before .before .before .before .before in
-    (small (b .args .recipe .now) (meant (b .args .table)) (b .args .s) (b .args .out .now) (b .pre .1), c .before .looked .ensures .0)
 
 add-end : tie.Need-add-end
 add-end c =
@@ -63,38 +48,67 @@ add-end c =
     let r = a .recipe .now in
     let t = meant (a .table) in
     let y = b .pre .1 in
-    let k = meantKind (c .before .before .before .before .before .before .kind .given .0 .0) in
-    let e : kindOf t (getD r (a .s .at) 0) ≡ some k = sym (c .before .before .before .before .before .before .before .before .kind-of .ensures) ∙ ap named (c .before .before .before .before .before .before .kind .given .1) in
-    let l = in-limit (y .start) r t (y .meant) (a .s) (a .out .now) (y .holds) k (b .pre .0) e (c .before .before .before .rest .result .now) (c .before .before .change-of .result) (c .before .before .before .rest .ensures) (c .before .before .change-of .ensures) in
+    let kind = c .before .before .before .before .before .before .kind .given in
+    let k = meantKind (kind .0 .0) in
+    let e : kindOf t (getD r (a .s .at) 0) ≡ some k = sym (c .before .before .before .before .before .before .before .before .kind-of .ensures) ∙ ap named (kind .1) in
+    let rest = c .before .before .before .rest in
+    let change = c .before .before .change-of in
+    let l = in-limit (y .start) r t (y .meant) (a .s) (a .out .now) (y .holds) k (b .pre .0) e (rest .result .now) (change .result) (rest .ensures) (change .ensures) in
     omega arith
 
-summed-requires : tie.Need-summed-requires
-summed-requires c κs =
-    let b = c .before .before .before .before .before .before .before .before .before .before .before .before .before .before .before .before .before .before .before .before .before .before in
+look-for-requires : tie.Need-look-for-requires
+look-for-requires c κs =
+    let b = c .before .before .before .before .before .before .before .before .before .before .before .before .before .before .before .before .before in
     let a = b .args in
     let r = a .recipe .now in
     let t = meant (a .table) in
     let y = b .pre .1 in
-    let k = meantKind (c .before .before .before .before .before .before .before .before .before .before .before .before .before .before .before .before .kind .given .0 .0) in
-    let e : kindOf t (getD r (a .s .at) 0) ≡ some k = sym (c .before .before .before .before .before .before .before .before .before .before .before .before .before .before .before .before .before .before .kind-of .ensures) ∙ ap named (c .before .before .before .before .before .before .before .before .before .before .before .before .before .before .before .before .kind .given .1) in
-    let l = in-limit (y .start) r t (y .meant) (a .s) (a .out .now) (y .holds) k (b .pre .0) e (c .before .before .before .before .before .before .before .before .before .before .before .before .before .rest .result .now) (c .before .before .before .before .before .before .before .before .before .before .before .before .change-of .result) (c .before .before .before .before .before .before .before .before .before .before .before .before .before .rest .ensures) (c .before .before .before .before .before .before .before .before .before .before .before .before .change-of .ensures) in
-    (omega arith, omega arith)
+    let kind = c .before .before .before .before .before .before .before .before .before .before .before .kind .given in
+    let k = meantKind (kind .0 .0) in
+    let e : kindOf t (getD r (a .s .at) 0) ≡ some k = sym (c .before .before .before .before .before .before .before .before .before .before .before .before .before .kind-of .ensures) ∙ ap named (kind .1) in
+    let rest = c .before .before .before .before .before .before .before .before .rest in
+    let change = c .before .before .before .before .before .before .before .change-of in
+    λ z. leads-there (y .start) r t (y .meant) (a .s) (a .out .now) (y .holds) k (b .pre .0) e (rest .result .now) (change .result) (rest .ensures) (change .ensures) (λ w. z (ap ordinalIn (c .refers .ensures) ∙ w))
 
-returns-2 : tie.Need-returns-2
-returns-2 c =
+put-requires : tie.Need-put-requires
+put-requires c κs =
+    let b = c .before .before .before .before .before .before .before .before .before .before .before .before .before .before .before .before .before .before .before in
+    (small (b .args .recipe .now) (meant (b .args .table)) (b .args .s) (b .args .out .now) (b .pre .1), rw (c .before .before .refers .ensures) at (c .before .look-for .ensures .0))
+
+summed-requires : tie.Need-summed-requires
+summed-requires c κs =
     let b = c .before .before .before .before .before .before .before .before .before .before .before .before .before .before .before .before .before .before .before .before .before .before .before .before in
     let a = b .args in
     let r = a .recipe .now in
     let t = meant (a .table) in
     let y = b .pre .1 in
-    let k = meantKind (c .before .before .before .before .before .before .before .before .before .before .before .before .before .before .before .before .before .before .kind .given .0 .0) in
-    let e : kindOf t (getD r (a .s .at) 0) ≡ some k = sym (c .before .before .before .before .before .before .before .before .before .before .before .before .before .before .before .before .before .before .before .before .kind-of .ensures) ∙ ap named (c .before .before .before .before .before .before .before .before .before .before .before .before .before .before .before .before .before .before .kind .given .1) in
-    let old = c .before .before .before .before .before .before .before .before .before .delete in
-    let f = old .ensures ∙ ap (λ (l : List ℕ). (a .s .sum .value + checkOf (sum l)) % 256) (c .before .before .before .before .before .before .before .before .before .before .part .ensures) in
-    let n = c .before .before .before .before .before .before .before .before .before .before .before .before .before .before .before .before .body-len .ensures in (
+    let kind = c .before .before .before .before .before .before .before .before .before .before .before .before .before .before .before .before .before .before .kind .given in
+    let k = meantKind (kind .0 .0) in
+    let e : kindOf t (getD r (a .s .at) 0) ≡ some k = sym (c .before .before .before .before .before .before .before .before .before .before .before .before .before .before .before .before .before .before .before .before .kind-of .ensures) ∙ ap named (kind .1) in
+    let rest = c .before .before .before .before .before .before .before .before .before .before .before .before .before .before .before .rest in
+    let change = c .before .before .before .before .before .before .before .before .before .before .before .before .before .before .change-of in
+    let l = in-limit (y .start) r t (y .meant) (a .s) (a .out .now) (y .holds) k (b .pre .0) e (rest .result .now) (change .result) (rest .ensures) (change .ensures) in
+    (omega arith, omega arith)
+
+returns-2 : tie.Need-returns-2
+returns-2 c =
+    let b = c .before .before .before .before .before .before .before .before .before .before .before .before .before .before .before .before .before .before .before .before .before .before .before .before .before .before in
+    let a = b .args in
+    let r = a .recipe .now in
+    let t = meant (a .table) in
+    let y = b .pre .1 in
+    let kind = c .before .before .before .before .before .before .before .before .before .before .before .before .before .before .before .before .before .before .before .before .kind .given in
+    let k = meantKind (kind .0 .0) in
+    let e : kindOf t (getD r (a .s .at) 0) ≡ some k = sym (c .before .before .before .before .before .before .before .before .before .before .before .before .before .before .before .before .before .before .before .before .before .before .kind-of .ensures) ∙ ap named (kind .1) in
+    let rest = c .before .before .before .before .before .before .before .before .before .before .before .before .before .before .before .before .before .rest in
+    let change = c .before .before .before .before .before .before .before .before .before .before .before .before .before .before .before .before .change-of in
+    let old = c .before .before .before .before .before .before .before .before .before .before .before .delete in
+    let f = old .ensures ∙ ap (λ (l : List ℕ). (a .s .sum .value + checkOf (sum l)) % 256) (c .before .before .before .before .before .before .before .before .before .before .before .before .part .ensures) in
+    let n = c .before .before .before .before .before .before .before .before .before .before .before .before .before .before .before .before .before .before .body-len .ensures in
+    let keep = rw (c .before .before .before .before .before .before .before .before .before .refers .ensures) at (c .before .before .before .before .before .before .before .before .look-for .ensures .1) in (
       omega (arith, n),
-      λ xs m h. stepped xs r t m (a .s) (a .out .now) h k (b .pre .0) e (c .before .before .before .before .before .before .before .before .before .before .before .before .before .before .before .rest .result .now) (c .before .before .before .before .before .before .before .before .before .before .before .before .before .before .change-of .result) (c .before .before .before .before .before .before .before .before .before .before .before .before .before .before .before .rest .ensures) (c .before .before .before .before .before .before .before .before .before .before .before .before .before .before .change-of .ensures)
-          _ _ (old .result .value) (c .before .before .before .before .before .before .before .looked .ensures .1) (c .before .before .before .before .before .put .ensures) (ap (λ (j : ℕ). a .s .at + 1 + j) n) refl refl f (c .before .summed .ensures),
+      λ xs m h. stepped xs r t m (a .s) (a .out .now) h k (b .pre .0) e (rest .result .now) (change .result) (rest .ensures) (change .ensures)
+          _ _ (old .result .value) keep (c .before .before .before .before .before .before .put .ensures) (ap (λ (j : ℕ). a .s .at + 1 + j) n) refl refl f (c .before .summed .ensures),
     )
 
 pub step-spec : {M : Type 1} → statement M
@@ -114,7 +128,8 @@ step-spec =
     add-end
     (λ c κs. search needs)
     (λ c κs. search needs)
-    looked-requires
+    (λ c κs. search needs)
+    look-for-requires
     put-requires
     summed-requires
     (λ c. search needs)

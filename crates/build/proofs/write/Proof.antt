@@ -11,8 +11,8 @@ put-records-requires c κs =
     let b = c .before .before .before .before .before .before .before in
     record { start = b .args .out .now; meant = b .pre .meant; holds = c .before .before .before .start .ensures .1 (b .pre .meant) (b .pre .means) }
 
-cast-put-u32 : tie.Need-cast-put-u32
-cast-put-u32 c =
+cast-set-length : tie.Need-cast-set-length
+cast-set-length c =
     let b = c .before .before .before .before .before .before .before .before .before .before .before .before .before in
     let h = c .before .before .before .before .before .put-records .ensures .1 (b .args .out .now) (b .pre .meant) (c .before .before .before .before .before .before .before .before .before .start .ensures .1 (b .pre .meant) (b .pre .means)) in
     omega (arith, h .ends, h .short)
@@ -24,7 +24,7 @@ returns c =
     let m = b .pre .meant in
     let put = c .before .before .before .before .before .before .before .before .before .before .before .before .put-records in
     let h = put .ensures .1 (a .out .now) m (c .before .before .before .before .before .before .before .before .before .before .before .before .before .before .before .before .start .ensures .1 m (b .pre .means)) in
-    ended (a .out .now) (a .recipe .now) (meant (a .table)) m (put .result) (put .last .1 .1 .0) (c .before .before .before .before .before .before .put-u32 .last .0) (c .before .before .put-u8 .last .0) (c .before .before .before .before .before .before .before .before .before .value .result) h (put .ensures .0) (b .pre .means) (c .before .before .before .before .before .before .put-u32 .ensures) (c .before .before .before .before .before .before .before .before .before .value .ensures) (c .before .before .put-u8 .ensures)
+    ended (a .out .now) (a .recipe .now) (meant (a .table)) m (put .result) (put .last .1 .1 .0) (c .before .before .before .before .before .before .set-length .last .0) (c .before .before .set-checksum .last .0) (c .before .before .before .before .before .before .before .before .before .value .result) h (put .ensures .0) (b .pre .means) (c .before .before .before .before .before .before .set-length .ensures) (c .before .before .before .before .before .before .before .before .before .value .ensures) (c .before .before .set-checksum .ensures)
 
 pub write-spec : {M : Type 1} → statement M
 write-spec =
@@ -33,7 +33,7 @@ write-spec =
     (λ c κs. search needs)
     put-records-requires
     (λ c κs. search needs)
-    cast-put-u32
+    cast-set-length
     (λ c κs. search needs)
     (λ c κs. search needs)
     (λ c. search needs)

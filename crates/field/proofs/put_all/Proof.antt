@@ -1,54 +1,53 @@
--- `put_all` meets its contract. The invariant: the numbers still to come, laid over what there is, give the answer.
-use mathlib.Core.Path.{_≡_, sym, _∙_}
-use Prim.Native.Nat.{_-_, _^_, _≤_, _<_}
+-- `put_all` meets its contract: numbers laid over a window that they fit are laid over the whole.
+use mathlib.Core.Path.{_≡_, refl, sym}
+use Prim.Native.Nat.{ℕ, _+_, _-_, _≤_, _<_, min}
+use mathlib.Core.Bool.{Bool, true, false}
+use mathlib.Core.Logic.{_⊎_, inl, inr}
 use native.Mathlib.Omega.{arith}
 use borrow.Author.Needs.{needs}
-use lib.ListN.{length, drop}
-use Rattle.format.specs.Bytes.{join, over}
-use Rattle.laws.proofs.Bytes.{length-over, join-turn, join-end}
+use borrow.Author.Tests.{leb-true, leb-false}
+use lib.Dec.{leb}
+use lib.ListN.{length}
+use Rattle.format.specs.Bytes.{join, sum}
+use Rattle.laws.proofs.Bytes.{over-past}
+use Rattle.laws.proofs.Joins.{join-short}
+use Rattle.laws.proofs.Over.{over-window}
 use Rattle.field.proofs.put_all.Statement.{statement}
 use Rattle.field.proofs.put_all.Tie as tie
 
-abbrev Inv-loop : tie.InvT-loop
-Inv-loop out₀ at ws vs n p₀ i₀ out p i =
-    (i ≤ n) × (p < 2 ^ 64) × (length out ≡ length out₀) × (over out p (join (drop i ws) (drop i vs)) ≡ over out₀ at (join ws vs))
+-- j bytes are no more than the window's n, or the window ends where the buffer of len bytes does: s is cut at m, and no buffer is longer than m
+covers : (s m n at len j : ℕ) → n ≡ min s m → len ≤ m → at < len → n ≤ len - at → j ≤ s → (j ≤ n) ⊎ (at + n ≡ len)
+covers s m n at len j e l p q h = by (leb s m) refl
+  where
+    by : (b : Bool) → leb s m ≡ b → (j ≤ n) ⊎ (at + n ≡ len)
+    by true x = let y = leb-true s m x in inl (omega (arith, e))
+    by false x = let y = leb-false s m x in inr (omega (arith, e))
 
-abbrev μ-loop : tie.MeasureT-loop
-μ-loop out₀ at ws vs n p₀ i₀ out p i = n - i
-
-loop-again : tie.Need-loop-again Inv-loop μ-loop
-loop-again c =
-    let l = c .before .before .before .before .before .before .before .loop in
-    let s = c .before .before .before .before .before .before .before .before .before .before .before .before .args in
-    let q = c .before .before .put in (
-      omega arith,
-      omega arith,
-      rw (q .ensures .0, length-over) (l .inv .2),
-      join-turn (l .out) (s .ws .now) (s .vs .now) _ (l .p) (l .i) _ (omega arith) (omega arith) (q .ensures .0) (q .ensures .1) ∙ l .inv .3,
-    )
-
-returns : tie.Need-returns Inv-loop μ-loop
-returns c =
-    let l = c .before .loop in
-    let s = c .before .before .before .before .before .before .args in
-    sym (join-end (l .out) (s .ws .now) (s .vs .now) (l .p) (l .i) (omega arith)) ∙ l .inv .3
+returns-3 : tie.Need-returns-3
+returns-3 c =
+    let t = c .before .before .before .before .before in
+    let a = t .before .before .before .before .before .args in
+    let out = a .out .now in
+    let cs = join (a .ws .now) (a .vs .now) in
+    let n = t .total .result in
+    let k = a .at + n - a .at in
+    let w = covers (sum (a .ws .now)) 18446744073709551615 k (a .at) (length out) (length cs) (omega (arith, t .total .ensures)) (omega arith) (omega arith) (omega arith) (join-short (a .ws .now) (a .vs .now)) in
+    over-window out _ cs (a .at) k (omega arith) w (c .before .before .put-each2 .ensures)
 
 pub put-all-spec : {M : Type 1} → statement M
 put-all-spec =
     tie.close
     (tie.spec
-    Inv-loop
-    μ-loop
+    (λ c. sym (over-past _ _ _ (c .if1 .taken)))
+    (λ c κs. search needs)
+    (λ c. search needs)
     (λ c κs. search needs)
     (λ c. search needs)
     (λ c. search needs)
     (λ c. search needs)
     (λ c. search needs)
     (λ c. search needs)
+    (λ c. search needs)
     (λ c κs. search needs)
     (λ c. search needs)
-    (λ c. search needs)
-    (λ c. search needs)
-    loop-again
-    (λ c. search needs)
-    returns)
+    returns-3)

@@ -6,15 +6,15 @@ use Rattle.frames.proofs.type_in.Tie as tie
 
 returns : tie.Need-returns
 unfolding part
-returns c = rw (c .before .enum-told .given .1) (c .get-u8 .ensures)
+returns c = rw (c .before .enum-told .given .1) (c .short-type .ensures)
 
 returns-2 : tie.Need-returns-2
 unfolding part
-returns-2 c = rw (c .before .enum-told2 .given .1) (c .get-u82 .ensures)
+returns-2 c = rw (c .before .enum-told2 .given .1) (c .short-type2 .ensures)
 
 returns-3 : tie.Need-returns-3
 unfolding part
-returns-3 c = rw (c .before .enum-told3 .given .1) (c .get-u16 .ensures)
+returns-3 c = rw (c .before .enum-told3 .given .1) (c .long-type .ensures)
 
 pub type-in-spec : {M : Type 1} → statement M
 type-in-spec =

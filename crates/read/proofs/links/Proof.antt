@@ -14,27 +14,27 @@ use Rattle.read.proofs.links.Statement.{statement}
 use Rattle.read.proofs.links.Tie as tie
 
 abbrev Inv-loop : tie.InvT-loop
-Inv-loop t c marks own offsets n i₀ i =
-    (i ≤ n) × (linked (refers (meant t) c own) n offsets ≡ linked (refers (meant t) c own) (n - i) (drop (4 * i) offsets))
+Inv-loop t c marks own resources n i₀ i =
+    (i ≤ n) × (linked (refers (meant t) c own) n resources ≡ linked (refers (meant t) c own) (n - i) (drop (4 * i) resources))
 
 abbrev μ-loop : tie.MeasureT-loop
-μ-loop t c marks own offsets n i₀ i = n - i
+μ-loop t c marks own resources n i₀ i = n - i
 
 returns : tie.Need-returns Inv-loop μ-loop
 returns c =
     let r = c .before in
     let l = r .before .before .before in
     let a = l .before .before .before .before .args in
-    let turn = linked-turn (refers (meant (a .t)) (a .c .now) (a .own)) _ (l .loop .i) (a .offsets .now) (r .before .before .loop-test .taken) in
-    sym (l .loop .inv .1 ∙ turn ∙ rw (← r .before .get-u32 .ensures, ← r .refers .ensures, not-true (r .refers .result) (c .if1 .taken)))
+    let turn = linked-turn (refers (meant (a .t)) (a .c .now) (a .own)) _ (l .loop .i) (a .resources .now) (r .before .before .loop-test .taken) in
+    sym (l .loop .inv .1 ∙ turn ∙ rw (← r .before .get-u32 .ensures, ← r .names-cache .ensures, not-true (r .names-cache .result) (c .if1 .taken)))
 
 loop-again : tie.Need-loop-again Inv-loop μ-loop
 loop-again c =
     let r = c .before in
     let l = r .before .before .before in
     let a = l .before .before .before .before .args in
-    let turn = linked-turn (refers (meant (a .t)) (a .c .now) (a .own)) _ (l .loop .i) (a .offsets .now) (r .before .before .loop-test .taken) in
-    (omega arith, l .loop .inv .1 ∙ turn ∙ rw (← r .before .get-u32 .ensures, ← r .refers .ensures, not-false (r .refers .result) (c .if1 .left)))
+    let turn = linked-turn (refers (meant (a .t)) (a .c .now) (a .own)) _ (l .loop .i) (a .resources .now) (r .before .before .loop-test .taken) in
+    (omega arith, l .loop .inv .1 ∙ turn ∙ rw (← r .before .get-u32 .ensures, ← r .names-cache .ensures, not-false (r .names-cache .result) (c .if1 .left)))
 
 returns-2 : tie.Need-returns-2 Inv-loop μ-loop
 returns-2 c =
@@ -51,8 +51,6 @@ links-spec =
     (λ c. (omega arith, rw sub-zero))
     (λ c. search needs)
     (λ c κs. search needs)
-    (λ c. search needs)
-    (λ c. search needs)
     (λ c κs. search needs)
     returns
     (λ c. search needs)

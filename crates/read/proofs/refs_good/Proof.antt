@@ -10,16 +10,16 @@ use Rattle.read.proofs.refs_good.Tie as tie
 returns : tie.Need-returns
 returns c =
     let r = c .before in
-    rw (r .before .before .enum-told .given .1, processor-refs, ← r .before .get-u32 .ensures, ← r .refers-or-none .ensures, not-true (r .refers-or-none .result) (c .if1 .taken))
+    rw (r .before .before .enum-told .given .1, processor-refs, ← r .before .parent-of .ensures, ← r .names-processor-or-none .ensures, not-true (r .names-processor-or-none .result) (c .if1 .taken))
 
 returns-2 : tie.Need-returns-2
 returns-2 c =
     let r = c .before .before .before in
-    rw (r .before .before .enum-told .given .1, processor-refs, ← r .before .get-u32 .ensures, ← r .refers-or-none .ensures, not-false (r .refers-or-none .result) (c .before .before .if1 .left))
+    rw (r .before .before .enum-told .given .1, processor-refs, ← r .before .parent-of .ensures, ← r .names-processor-or-none .ensures, not-false (r .names-processor-or-none .result) (c .before .before .if1 .left))
     (c .links .ensures ∙ rw (c .before .rest .ensures))
 
 returns-3 : tie.Need-returns-3
-returns-3 c = rw (c .before .before .enum-told2 .given .1, ← cache-refs, ← c .before .get-u322 .ensures) (c .refers-or-none2 .ensures)
+returns-3 c = rw (c .before .before .enum-told2 .given .1, ← cache-refs, ← c .before .next-level-of .ensures) (c .names-cache-or-none .ensures)
 
 pub refs-good-spec : {M : Type 1} → statement M
 refs-good-spec =
@@ -27,14 +27,12 @@ refs-good-spec =
     (tie.spec
     (λ c. search needs)
     (λ c κs. search needs)
-    (λ c. search needs)
     (λ c κs. search needs)
     returns
     (λ c κs. search needs)
     (λ c κs. search needs)
     (λ c. search needs)
     (λ c κs. search needs)
-    (λ c. search needs)
     (λ c κs. search needs)
     (λ c. search needs)
     (λ c. search needs)

@@ -12,7 +12,7 @@ use Rattle.read.proofs.scan.Statement.{statement}
 use Rattle.read.proofs.scan.Tie as tie
 
 abbrev Inv-loop : tie.InvT-loop
-Inv-loop t c revision mask p₀ count₀ marks₀ p count marks = (count ≤ p) × Scanning (meant t) c revision mask p count × Marked (meant t) c marks × (64 ≡ length marks)
+Inv-loop t c revision mask p₀ count₀ marks₀ p count marks = (count ≤ p) × Scanning (meant t) c revision mask p count × Marked (meant t) c marks × (256 ≡ length marks)
 
 abbrev μ-loop : tie.MeasureT-loop
 μ-loop t c revision mask p₀ count₀ marks₀ p count marks = length c - p
@@ -20,7 +20,7 @@ abbrev μ-loop : tie.MeasureT-loop
 loop-holds : tie.Need-loop-holds Inv-loop μ-loop
 loop-holds c =
     let a = c .before .before .before .args in
-    (omega arith, rw (c .before .front .ensures) (scan-first (meant (a .t)) (a .c .now) (a .revision) (a .mask)), subst (λ (m : ℕ). Marked (meant (a .t)) (a .c .now) (replicate 64 m)) (sym (c .front2 .ensures)) (marked-front (meant (a .t)) (a .c .now) 64), refl)
+    (omega arith, rw (c .before .front .ensures) (scan-first (meant (a .t)) (a .c .now) (a .revision) (a .mask)), subst (λ (m : ℕ). Marked (meant (a .t)) (a .c .now) (replicate 256 m)) (sym (c .front2 .ensures)) (marked-front (meant (a .t)) (a .c .now) 256), refl)
 
 mark-requires : tie.Need-mark-requires Inv-loop μ-loop
 mark-requires c κs =

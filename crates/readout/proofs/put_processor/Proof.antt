@@ -1,6 +1,5 @@
--- `put_processor` meets its contract: the call of its fields, each read at its offset, and behind it those of its list.
-use mathlib.Core.Path.{refl}
-use mathlib.Core.Path.{_≡_}
+-- `put_processor` meets its contract: its node, under the ordinal of its parent, is the call of its fields, and behind it are those of its list.
+use mathlib.Core.Path.{_≡_, ap, _∙_}
 use Prim.Native.Nat.{_-_, _/_, _≤_}
 use native.Mathlib.Omega.{arith}
 use lib.ListN.{length}
@@ -10,68 +9,79 @@ use Rattle.format.specs.Form.{layout}
 use Rattle.format.specs.Row.{formIn}
 use Rattle.format.specs.Kind.{Processor, body}
 use Rattle.format.specs.Normal.{calls}
-use Rattle.readout.proofs.Lists.{call-laid, unlaid, laid-on}
-use Rattle.readout.proofs.Records.{calls-at, length-processor}
+use Rattle.laws.proofs.Fields.{length-call}
+use Rattle.header.specs.Header.{meant}
+use Rattle.pptt.specs.declared.ProcessorHandle.{ProcessorHandle}
+use Rattle.readout.specs.Places.{ordinalAt}
+use Rattle.readout.proofs.Lists.{put-laid, unlaid, laid-on}
+use Rattle.readout.proofs.Records.{calls-at, length-processor, processor-named}
 use Rattle.readout.proofs.put_processor.Statement.{statement}
 use Rattle.readout.proofs.put_processor.Tie as tie
-
-mul-result : tie.Need-mul-result
-mul-result c =
-    let s = c .before .before .before .before .before in
-    let l : length (s .args .body .now) ≤ 1048576 = s .pre .0 in
-    let k : c .resources .result ≡ (length (s .args .body .now) - 20) / 4 = c .resources .ensures in
-    omega arith
-
-add-result-2 : tie.Need-add-result-2
-add-result-2 c =
-    let s = c .before .before .before .before .before in
-    let l : length (s .args .body .now) ≤ 1048576 = s .pre .0 in
-    let k : c .resources .result ≡ (length (s .args .body .now) - 20) / 4 = c .resources .ensures in
-    omega arith
 
 returns : tie.Need-returns
 unfolding formIn
 returns c =
-    let s = c .before .before .before .before .before in
+    let r = c .before in
+    let s = r .before .before .before .before in
     let l : length (s .args .body .now) ≤ 1048576 = s .pre .0 in
-    let k : c .resources .result ≡ (length (s .args .body .now) - 20) / 4 = c .resources .ensures in
-    (unlaid _ _ _ _ (c .before .if1 .taken) (rw (← c .resources .ensures, length-processor) (omega arith)), omega arith)
+    let k : r .resources-in .result ≡ (length (s .args .body .now) - 20) / 4 = r .resources-in .ensures in
+    (unlaid _ _ _ _ (c .if1 .taken) (rw (← r .resources-in .ensures, length-processor) (omega arith)), omega arith)
+
+add-p : tie.Need-add-p
+unfolding body width
+add-p c =
+    let v = c .before .before in
+    let s = v .before .before .before .before .before .before .before .before .before .before in
+    let z : v .put-body .result ≡ 13 = v .put-body .ensures .1 ∙ length-call Processor _ in
+    omega (arith, s .pre .1)
+
+put-resources-requires : tie.Need-put-resources-requires
+unfolding body width
+put-resources-requires c κs =
+    let v = c .before .before .before in
+    let n = v .before .before .before .before .before .before in
+    let s = n .before .before .before .before in
+    let z : v .put-body .result ≡ 13 = v .put-body .ensures .1 ∙ length-call Processor _ in
+    let l : length (s .args .body .now) ≤ 1048576 = s .pre .0 in
+    let k : n .resources-in .result ≡ (length (s .args .body .now) - 20) / 4 = n .resources-in .ensures in
+    (omega arith, omega arith)
 
 returns-2 : tie.Need-returns-2
 unfolding calls layout formIn body width
 returns-2 c =
     let x = c .before .before in
-    let n = x .before .before in
-    let v = n .before .before .before in
-    let g = v .before .before .before .before in
-    let s = g .before .before .before .before .before .before .before .before in
+    let v = x .before .before .before .before in
+    let m = v .before .before in
+    let o = m .before in
+    let g = o .before in
+    let n = g .before .before in
+    let s = n .before .before .before .before in
     let b = s .args .body .now in
+    let z : v .put-body .result ≡ 13 = v .put-body .ensures .1 ∙ length-call Processor _ in
     let l : length b ≤ 1048576 = s .pre .0 in
-    let k : n .resources2 .result ≡ (length b - 20) / 4 = n .resources2 .ensures in
-    let e = rw (g .get-u323 .ensures, g .before .get-u322 .ensures, g .before .before .ordinal .ensures, g .before .before .before .get-u32 .ensures) at (v .put-fields .ensures) in
-    (rw (calls-at, ← n .resources2 .ensures) (laid-on (call-laid Processor _ _ _ _ _ e refl) (x .put-resources .ensures .0)), omega arith)
+    let k : n .resources-in .result ≡ (length b - 20) / 4 = n .resources-in .ensures in
+    let w = rw (m .named .ensures) at (v .put-body .ensures .0) in
+    let j = rw (m .named .ensures) at (v .put-body .ensures .1) in
+    let h = ap (λ (x : ProcessorHandle). x .0) (o .processor-ordinal .ensures) in
+    let f = ordinalAt (meant (s .args .t)) (s .args .c .now) (s .args .own) in
+    (rw (calls-at, ← n .resources-in .ensures) (laid-on (put-laid w j (processor-named f b (g .get .result) (o .processor-ordinal .result) (n .resources-in .result) (g .get .ensures) h)) (x .put-resources .ensures .0)), omega arith)
 
 pub put-processor-spec : {M : Type 1} → statement M
 put-processor-spec =
     tie.close
     (tie.spec
-    (λ c. search needs)
     (λ c κs. search needs)
-    mul-result
-    add-result-2
+    (λ c. search needs)
+    (λ c. search needs)
+    (λ c. search needs)
+    (λ c. search needs)
+    (λ c. search needs)
     returns
     (λ c κs. search needs)
-    (λ c. search needs)
     (λ c κs. search needs)
     (λ c κs. search needs)
-    (λ c. search needs)
     (λ c κs. search needs)
-    (λ c. search needs)
-    (λ c. search needs)
-    (λ c. search needs)
-    (λ c κs. search needs)
-    (λ c κs. search needs)
-    (λ c. search needs)
-    (λ c κs. search needs)
+    add-p
+    put-resources-requires
     (λ c. search needs)
     returns-2)

@@ -2,7 +2,6 @@
 use mathlib.Core.Path.{refl}
 use borrow.Author.Needs.{needs}
 use borrow.Author.Tests.{lt-ltb, le-ltb}
-use Rattle.format.specs.Bytes.{part}
 use Rattle.format.specs.Build.{written}
 use Rattle.header.specs.Header.{meant}
 use Rattle.laws.proofs.Bytes.{value-byte}
@@ -15,32 +14,25 @@ unfolding written
 returns c = rw (lt-ltb _ _ (c .if1 .taken)) (refl, refl)
 
 put-records-requires : tie.Need-put-records-requires
-put-records-requires c κs = rw (c .before .own .ensures) (c .before .before .before .before .before .before .before .before .before .before .before .before .before .before .before .before .before .before .pre .1)
+put-records-requires c κs = rw (c .before .own .ensures) (c .before .before .before .before .before .before .before .before .before .before .pre .1)
 
 returns-2 : tie.Need-returns-2
-unfolding written part
+unfolding written
 returns-2 c =
     let v = c .before .before in
-    let w = v .before .before .before .before .before .before in
-    let u = w .before .before .before .before .before in
-    let s = u .before .before .before .before .before .before .before .before in
+    let o = v .before .before in
+    let h = o .before .before .before .before in
+    let e = h .before .before in
+    let s = e .before .before .before in
     let b = s .args .table .now in
-    let h = rw (u .before .before .code .ensures) at (u .put-all .ensures) in
-    let r = rw (v .before .before .before .get-u8 .ensures, ← value-byte b 8, v .before .before .own .ensures) at (v .put-records .ensures .1) in
-    rw (le-ltb _ _ (u .before .before .before .before .before .if1 .left)) (refl, recipe-laid (meant (s .args .t)) b _ _ _ _ (s .pre .0) h (w .copy .ensures) r)
+    let r = rw (o .before .revision-in .ensures, ← value-byte b 8, o .own .ensures) at (v .put-records .ensures .1) in
+    rw (le-ltb _ _ (e .if1 .left)) (refl, recipe-laid (meant (s .args .t)) b _ _ _ (s .pre .0) (h .put-body .ensures) r)
 
 pub put-recipe-spec : {M : Type 1} → statement M
 put-recipe-spec =
     tie.close
     (tie.spec
     returns
-    (λ c. search needs)
-    (λ c κs. search needs)
-    (λ c. search needs)
-    (λ c κs. search needs)
-    (λ c. search needs)
-    (λ c. search needs)
-    (λ c. search needs)
     (λ c κs. search needs)
     (λ c κs. search needs)
     (λ c κs. search needs)

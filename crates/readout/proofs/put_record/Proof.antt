@@ -1,11 +1,13 @@
 -- `put_record` meets its contract, row by row.
-use mathlib.Core.Path.{_≡_}
+use mathlib.Core.Path.{_≡_, refl}
 use mathlib.Core.Option.{some}
 use native.Mathlib.Omega.{arith}
 use borrow.Author.Needs.{needs}
-use Rattle.format.specs.Row.{matrices, formIn}
+use Rattle.format.specs.Form.{memory, rintc, domain, layout}
+use Rattle.format.specs.Row.{initiators, matrices, formIn}
 use Rattle.rows.specs.Rows.{rowMeant}
 use Rattle.readout.proofs.Lists.{none-laid}
+use Rattle.readout.proofs.Records.{node-short, node-laid, initiator-plain}
 use Rattle.readout.proofs.put_record.Statement.{statement}
 use Rattle.readout.proofs.put_record.Tie as tie
 
@@ -23,21 +25,60 @@ returns-2 : tie.Need-returns-2
 unfolding formIn
 returns-2 c = let v = c .before .before in rw (v .before .before .enum-told2 .given .1) (v .put-cache .ensures .0, omega arith)
 
+add-result : tie.Need-add-result
+add-result c =
+    let v = c .before .before in
+    let l = node-short memory _ _ (v .before .before .get .ensures) refl in
+    omega (arith, l, v .put-body .ensures .1)
+
 returns-3 : tie.Need-returns-3
-unfolding formIn
-returns-3 c = let v = c .before .before in rw (v .before .before .enum-told3 .given .1) (v .put-memory .ensures .0 _, omega arith)
+unfolding formIn layout
+returns-3 c =
+    let v = c .before .before in
+    let g = v .before .before in
+    let l = node-short memory _ _ (g .get .ensures) refl in
+    rw (g .before .enum-told3 .given .1) (node-laid memory _ _ (g .get .ensures) _ _ _ _ _ _ refl (v .put-body .ensures .0) (v .put-body .ensures .1) refl, omega (arith, l, v .put-body .ensures .1))
+
+add-result-2 : tie.Need-add-result-2
+add-result-2 c =
+    let v = c .before .before in
+    let l = node-short (formIn initiators _) _ _ (v .before .before .get2 .ensures) (initiator-plain _ .0) in
+    omega (arith, l, v .put-body2 .ensures .1)
 
 returns-4 : tie.Need-returns-4
-unfolding formIn
-returns-4 c = let v = c .before .before in rw (v .before .before .enum-told4 .given .1) (v .put-initiator .ensures .0 _, omega arith)
+returns-4 c =
+    let v = c .before .before in
+    let g = v .before .before in
+    let l = node-short (formIn initiators _) _ _ (g .get2 .ensures) (initiator-plain _ .0) in
+    rw (g .before .enum-told4 .given .1) (node-laid (formIn initiators _) _ _ (g .get2 .ensures) _ _ _ _ _ _ (initiator-plain _ .1) (v .put-body2 .ensures .0) (v .put-body2 .ensures .1) refl, omega (arith, l, v .put-body2 .ensures .1))
+
+add-result-3 : tie.Need-add-result-3
+add-result-3 c =
+    let v = c .before .before in
+    let l = node-short rintc _ _ (v .before .before .get3 .ensures) refl in
+    omega (arith, l, v .put-body3 .ensures .1)
 
 returns-5 : tie.Need-returns-5
-unfolding formIn
-returns-5 c = let v = c .before .before in rw (v .before .before .enum-told5 .given .1) (v .put-rintc .ensures .0 _, omega arith)
+unfolding formIn layout
+returns-5 c =
+    let v = c .before .before in
+    let g = v .before .before in
+    let l = node-short rintc _ _ (g .get3 .ensures) refl in
+    rw (g .before .enum-told5 .given .1) (node-laid rintc _ _ (g .get3 .ensures) _ _ _ _ _ _ refl (v .put-body3 .ensures .0) (v .put-body3 .ensures .1) refl, omega (arith, l, v .put-body3 .ensures .1))
+
+add-result-4 : tie.Need-add-result-4
+add-result-4 c =
+    let v = c .before .before in
+    let l = node-short domain _ _ (v .before .before .get4 .ensures) refl in
+    omega (arith, l, v .put-body4 .ensures .1)
 
 returns-6 : tie.Need-returns-6
-unfolding formIn
-returns-6 c = let v = c .before .before in rw (v .before .before .enum-told6 .given .1) (v .put-domain .ensures .0 _, omega arith)
+unfolding formIn layout
+returns-6 c =
+    let v = c .before .before in
+    let g = v .before .before in
+    let l = node-short domain _ _ (g .get4 .ensures) refl in
+    rw (g .before .enum-told6 .given .1) (node-laid domain _ _ (g .get4 .ensures) _ _ _ _ _ _ refl (v .put-body4 .ensures .0) (v .put-body4 .ensures .1) refl, omega (arith, l, v .put-body4 .ensures .1))
 
 returns-7 : tie.Need-returns-7
 unfolding formIn
@@ -60,12 +101,20 @@ put-record-spec =
     (λ c κs. search needs)
     (λ c. search needs)
     (λ c κs. search needs)
+    (λ c κs. search needs)
+    add-result
     (λ c. search needs)
     (λ c κs. search needs)
+    (λ c κs. search needs)
+    add-result-2
     (λ c. search needs)
     (λ c κs. search needs)
+    (λ c κs. search needs)
+    add-result-3
     (λ c. search needs)
     (λ c κs. search needs)
+    (λ c κs. search needs)
+    add-result-4
     (λ c. search needs)
     put-matrix-requires
     (λ c. search needs)

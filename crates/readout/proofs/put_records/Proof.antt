@@ -100,6 +100,7 @@ put-records-spec =
     Inv-loop
     μ-loop
     (λ c κs. search needs)
+    (λ c. search needs)
     loop-holds
     (λ c κs. search needs)
     (λ c κs. search needs)

@@ -1,4 +1,6 @@
 -- `put_settings` meets its contract: initiators, targets and cells lie one behind the other.
+use mathlib.Core.Path.{_≡_}
+use Prim.Native.Nat.{_+_, _*_}
 use native.Mathlib.Omega.{arith}
 use borrow.Author.Needs.{needs}
 use Rattle.readout.proofs.Lists.{laid-on}
@@ -6,38 +8,45 @@ use Rattle.readout.proofs.Records.{settings-at, some-targets, few-cells
 use Rattle.readout.proofs.put_settings.Statement.{statement}
 use Rattle.readout.proofs.put_settings.Tie as tie
 
-mul-put-cells-2 : tie.Need-mul-put-cells-2
-mul-put-cells-2 c =
-    let s = c .before .before .before .before .before .before .before .before .before .before in
+mul-put-cells : tie.Need-mul-put-cells
+mul-put-cells c =
+    let s = c .before .before .before .before .before .before .before .before .before .before .before .before .before in
     let f = few-cells (s .args .i) (s .args .t) (s .pre .0) (s .pre .1) in
     omega arith
 
 put-cells-requires : tie.Need-put-cells-requires
 put-cells-requires c κs =
-    let s = c .before .before .before .before .before .before .before .before .before .before .before in
+    let p = c .before .before .before .before .before .before .before .before .before in
+    let s = p .before .before .before .before .before in
     let f = few-cells (s .args .i) (s .args .t) (s .pre .0) (s .pre .1) in
-    (some-targets (s .args .i) (s .args .t), omega arith, omega arith, omega arith)
+    (some-targets (s .args .i) (s .args .t), omega (arith, p .target-place2 .ensures), omega arith, omega arith)
 
 returns : tie.Need-returns
 returns c =
     let x = c .before .before in
     let w = x .before .before .before .before in
     let v = w .before .before .before .before in
-    let s = v .before .before .before .before in
+    let p = v .before .before in
+    let s = p .before .before .before .before .before in
     let f = few-cells (s .args .i) (s .args .t) (s .pre .0) (s .pre .1) in
-    (λ g. rw (settings-at g) (laid-on (v .put-values .ensures .0) (laid-on (w .put-values2 .ensures .0) (x .put-cells .ensures .0))), omega arith)
+    let a : p .before .before .initiator-place .result ≡ 32 = omega (arith, p .before .before .initiator-place .ensures) in
+    let b : p .before .target-place .result ≡ 32 + 4 * s .args .i = omega (arith, p .before .target-place .ensures) in
+    let d : p .target-place2 .result ≡ 32 + 4 * s .args .i + 4 * s .args .t = omega (arith, p .target-place2 .ensures) in
+    let A = rw a at (v .put-values .ensures .0) in
+    let B = rw b at (w .put-values2 .ensures .0) in
+    let C = rw d at (x .put-cells .ensures .0) in
+    (λ g. rw (settings-at g) (laid-on A (laid-on B C)), omega arith)
 
 pub put-settings-spec : {M : Type 1} → statement M
 put-settings-spec =
     tie.close
     (tie.spec
-    (λ c. search needs)
-    (λ c. search needs)
     (λ c κs. search needs)
     (λ c κs. search needs)
-    (λ c. search needs)
-    (λ c. search needs)
-    mul-put-cells-2
+    (λ c κs. search needs)
+    (λ c κs. search needs)
+    (λ c κs. search needs)
+    mul-put-cells
     put-cells-requires
     (λ c. search needs)
     returns)

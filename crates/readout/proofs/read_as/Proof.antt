@@ -13,7 +13,7 @@ unfolding written
 returns c =
     let r = c .before in
     let b = r .before .before .before .before .args .table .now in
-    let e = rw (r .before .get-u8 .ensures, ← value-byte b 8, r .revision .ensures) at (ne-eqb _ _ (c .if1 .taken)) in
+    let e = rw (r .before .revision-in .ensures, ← value-byte b 8, r .revision .ensures) at (ne-eqb _ _ (c .if1 .taken)) in
     rw (other-revision _ b _ e) (refl, refl)
 
 put-records-requires : tie.Need-put-records-requires
@@ -27,8 +27,8 @@ returns-2 c =
     let o = w .before .before in
     let r = o .before .before in
     let b = r .before .before .before .before .args .table .now in
-    let e = rw (r .before .get-u8 .ensures, ← value-byte b 8, r .revision .ensures) at (eq-eqb _ _ (o .before .if1 .left)) in
-    let m = rw (x .n .given .1, r .before .get-u8 .ensures, ← value-byte b 8, o .own .ensures) at (w .put-records .ensures .0) in
+    let e = rw (r .before .revision-in .ensures, ← value-byte b 8, r .revision .ensures) at (eq-eqb _ _ (o .before .if1 .left)) in
+    let m = rw (x .n .given .1, r .before .revision-in .ensures, ← value-byte b 8, o .own .ensures) at (w .put-records .ensures .0) in
     rw (by-measure _ b _ _ e m) (v .put-recipe .ensures .0, v .put-recipe .ensures .1)
 
 returns-3 : tie.Need-returns-3
@@ -39,8 +39,8 @@ returns-3 c =
     let o = w .before .before in
     let r = o .before .before in
     let b = r .before .before .before .before .args .table .now in
-    let e = rw (r .before .get-u8 .ensures, ← value-byte b 8, r .revision .ensures) at (eq-eqb _ _ (o .before .if1 .left)) in
-    let m = rw (x .p .given .1, r .before .get-u8 .ensures, ← value-byte b 8, o .own .ensures) at (w .put-records .ensures .0) in
+    let e = rw (r .before .revision-in .ensures, ← value-byte b 8, r .revision .ensures) at (eq-eqb _ _ (o .before .if1 .left)) in
+    let m = rw (x .p .given .1, r .before .revision-in .ensures, ← value-byte b 8, o .own .ensures) at (w .put-records .ensures .0) in
     rw (by-measure _ b _ _ e m) (refl, refl)
 
 pub read-as-spec : {M : Type 1} → statement M

@@ -1,6 +1,12 @@
 -- `cache` meets its contract: its fields are good, and its next level is a cache, or none.
-use mathlib.Core.Path.{sym, _∙_}
+use mathlib.Core.Path.{_≡_, sym, ap, _∙_}
 use borrow.Author.Needs.{needs}
+use borrow.Author.Tests.{eq-eqb, ne-eqb}
+use Rattle.format.specs.Bytes.{at}
+use Rattle.format.specs.Node.{Node}
+use Rattle.format.specs.Kind.{Cache}
+use Rattle.format.specs.Field.{badField}
+use Rattle.recipe.specs.Machine.{refers}
 use Rattle.recipe.proofs.Numbers.{passes, fails}
 use Rattle.recipe.proofs.Steps.{cache-turn}
 use Rattle.recipe.proofs.cache.Statement.{statement}
@@ -8,34 +14,37 @@ use Rattle.recipe.proofs.cache.Tie as tie
 
 returns : tie.Need-returns
 returns c rs found t ns p e b =
-    let a = c .before .before .before .args in
-    sym (cache-turn t ns (a .st) e rs b p (a .bytes .now) (a .found) found ∙ rw (fails (c .before .is-good-cache .ensures) (c .if1 .taken)))
+    let g = c .before .before in
+    let a = g .before .before .args in
+    sym (cache-turn t ns (a .st) e rs b p (a .bytes .now) (a .found) _ (c .before .bad-field .ensures ∙ ap badField (g .from-body .ensures)) found ∙ rw (ne-eqb _ _ (c .if1 .taken)))
 
 returns-2 : tie.Need-returns-2
 returns-2 c rs found t ns p e b =
-    let g = c .before .before .before in
-    let d = g .before in
-    let a = d .before .before .before .args in
-    sym (cache-turn t ns (a .st) e rs b p (a .bytes .now) (a .found) found
-    ∙ rw (passes (d .before .is-good-cache .ensures) (d .if1 .left), ← g .get-u32 .ensures, fails (c .before .names-or-none .ensures) (c .if2 .taken)))
+    let d = c .before .before .before .before in
+    let g = d .before .before in
+    let a = g .before .before .args in
+    let v : g .from-body .result .«next_level» .0 ≡ refers Cache (a .bytes .now) = ap (λ (n : Node). at (n .values) 1) (g .from-body .ensures) in
+    sym (cache-turn t ns (a .st) e rs b p (a .bytes .now) (a .found) _ (d .before .bad-field .ensures ∙ ap badField (g .from-body .ensures)) found
+    ∙ rw (eq-eqb _ _ (d .if1 .left), ← v, fails (c .before .is-cache-or-none .ensures) (c .if2 .taken)))
 
 returns-3 : tie.Need-returns-3
 returns-3 c rs found t ns p e b =
     let f = c .before in
-    let g = f .before .before .before in
-    let d = g .before in
-    let a = d .before .before .before .args in
+    let d = f .before .before .before .before in
+    let g = d .before .before in
+    let a = g .before .before .args in
+    let v : g .from-body .result .«next_level» .0 ≡ refers Cache (a .bytes .now) = ap (λ (n : Node). at (n .values) 1) (g .from-body .ensures) in
     rw (c .grown .ensures)
-    (sym (cache-turn t ns (a .st) e rs b p (a .bytes .now) (a .found) found
-    ∙ rw (passes (d .before .is-good-cache .ensures) (d .if1 .left), ← g .get-u32 .ensures, passes (f .before .names-or-none .ensures) (f .if2 .left))))
+    (sym (cache-turn t ns (a .st) e rs b p (a .bytes .now) (a .found) _ (d .before .bad-field .ensures ∙ ap badField (g .from-body .ensures)) found
+    ∙ rw (eq-eqb _ _ (d .if1 .left), ← v, passes (f .before .is-cache-or-none .ensures) (f .if2 .left))))
 
 pub cache-spec : {M : Type 1} → statement M
 cache-spec =
     tie.close
     (tie.spec
     (λ c κs. search needs)
-    returns
     (λ c κs. search needs)
+    returns
     (λ c. search needs)
     (λ c κs. search needs)
     returns-2

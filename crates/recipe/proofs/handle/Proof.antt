@@ -11,22 +11,18 @@ use Rattle.recipe.proofs.handle.Tie as tie
 
 returns : tie.Need-returns
 unfolding step
-returns c t ns p e =
-    let a = c .before .before .args in
-    sym (turn-judged t ns Handle (a .bytes .now) p ∙ rw (stray-handle t ns (a .st) e (fields (body Handle) (a .bytes .now)) (c .match .keys2)))
+returns c bs t ns p e = sym (turn-judged t ns Handle bs p ∙ rw (stray-handle t ns (c .before .args .st) e (fields (body Handle) bs) (c .match .keys2)))
 
 returns-2 : tie.Need-returns-2
-returns-2 c t ns p e =
+returns-2 c bs t ns p e =
     let n = c .before .before in
-    let a = n .before .before .before .args in
-    sym (handle-turn t (a .st) p (a .bytes .now) _ ns e (n .newest .given .1) ∙ rw (le-leb _ _ (c .if1 .taken)))
+    sym (handle-turn t (n .before .before .args .st) p bs _ ns e (n .newest .given .1) ∙ rw (le-leb _ _ (c .if1 .taken)))
 
 returns-3 : tie.Need-returns-3
-returns-3 c t ns p e =
+returns-3 c bs t ns p e =
     let d = c .before in
     let n = d .before .before in
-    let a = n .before .before .before .args in
-    rw (c .grown .ensures) (sym (handle-turn t (a .st) p (a .bytes .now) _ ns e (n .newest .given .1) ∙ rw (lt-leb _ _ (d .if1 .left))))
+    rw (c .grown .ensures) (sym (handle-turn t (n .before .before .args .st) p bs _ ns e (n .newest .given .1) ∙ rw (lt-leb _ _ (d .if1 .left))))
 
 pub handle-spec : {M : Type 1} → statement M
 handle-spec = tie.close (tie.spec (λ c. search needs) returns returns-2 (λ c. search needs) (λ c κs. search needs) returns-3)

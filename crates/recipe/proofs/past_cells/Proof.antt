@@ -1,5 +1,5 @@
 -- `past_cells` meets its contract. The invariant: what a state with this matrix stands for at the first place, it stands for at the one that is reached.
-use mathlib.Core.Path.{_≡_}
+use mathlib.Core.Path.{_≡_, sym, _∙_}
 use Prim.Native.Nat.{_-_, _≤_}
 use native.Mathlib.Omega.{arith}
 use borrow.Author.Needs.{needs}
@@ -9,7 +9,6 @@ use Rattle.header.specs.declared.Table.the-variants.{Hmat}
 use Rattle.recipe.specs.declared.Newest.the-variants.{Matrix}
 use Rattle.recipe.specs.declared.State.{State}
 use Rattle.recipe.specs.Machine.{Stands}
-use Rattle.recipe.proofs.Numbers.{passes}
 use Rattle.recipe.proofs.Walks.{cell-fits, cell-passed}
 use Rattle.recipe.proofs.past_cells.Statement.{statement}
 use Rattle.recipe.proofs.past_cells.Tie as tie
@@ -24,28 +23,32 @@ abbrev μ-loop : tie.MeasureT-loop
 loop-holds : tie.Need-loop-holds Inv-loop μ-loop
 loop-holds c = (search needs, λ h s o n w. w)
 
-returns-3 : tie.Need-returns-3 Inv-loop μ-loop
-returns-3 c =
-    let l = c .before .before .before in
-    let n = l .before .before in
-    (l .loop .inv .0, λ h w. l .loop .inv .1 h _ (n .before .before .enum-told .given .1) (n .newest .given .1) w)
-
 add-at : tie.Need-add-at Inv-loop μ-loop
 add-at c =
-    let l = c .before .before .before in
-    let f = cell-fits (l .before .before .before .before .before .before .before .args .recipe .now) (l .loop .at) _ _ (passes (c .before .is-good-cell .ensures) (c .if1 .left)) in
+    let l = c .before .before in
+    let f = cell-fits (l .before .before .before .before .before .before .before .args .recipe .now) (l .loop .at) _ _ (sym (c .before .stands .ensures) ∙ c .if1 .taken) in
+    omega (arith, f)
+
+add-at-2 : tie.Need-add-at-2 Inv-loop μ-loop
+add-at-2 c =
+    let l = c .before .before in
+    let f = cell-fits (l .before .before .before .before .before .before .before .args .recipe .now) (l .loop .at) _ _ (sym (c .before .stands .ensures) ∙ c .if1 .taken) in
+    omega (arith, f)
+
+loop-less : tie.Need-loop-less Inv-loop μ-loop
+loop-less c =
+    let l = c .before .before in
+    let f = cell-fits (l .before .before .before .before .before .before .before .args .recipe .now) (l .loop .at) _ _ (sym (c .before .stands .ensures) ∙ c .if1 .taken) in
     omega (arith, f)
 
 loop-again : tie.Need-loop-again Inv-loop μ-loop
 loop-again c =
-    let l = c .before .before .before in (
-      omega (arith, l .loop .inv .0),
-      λ h s o n w. cell-passed _ h (l .loop .at) s (l .loop .inv .1 h s o n w) _ _ o n (c .before .before .loop-test .taken) (passes (c .before .is-good-cell .ensures) (c .if1 .left)),
-    )
+    let l = c .before .before in
+    (omega (arith, l .loop .inv .0), λ h s o n w. cell-passed _ h (l .loop .at) s (l .loop .inv .1 h s o n w) _ _ o n (sym (c .before .stands .ensures) ∙ c .if1 .taken))
 
-returns-4 : tie.Need-returns-4 Inv-loop μ-loop
-returns-4 c =
-    let l = c .before in
+returns-3 : tie.Need-returns-3 Inv-loop μ-loop
+returns-3 c =
+    let l = c .before .before in
     let n = l .before .before in
     (l .loop .inv .0, λ h w. l .loop .inv .1 h _ (n .before .before .enum-told .given .1) (n .newest .given .1) w)
 
@@ -61,8 +64,8 @@ past-cells-spec =
     (λ c. (search needs, λ h w. w))
     loop-holds
     (λ c κs. search needs)
-    returns-3
     add-at
-    (λ c. search needs)
+    add-at-2
+    loop-less
     loop-again
-    returns-4)
+    returns-3)

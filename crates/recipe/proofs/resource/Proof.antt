@@ -1,10 +1,12 @@
 -- `resource` meets its contract: behind a processor that has fewer than 58 of them, a cache that is named.
-use mathlib.Core.Path.{sym, _∙_}
+use mathlib.Core.Path.{_≡_, sym, ap, _∙_}
 use borrow.Author.Needs.{needs}
 use borrow.Author.Tests.{le-leb, lt-leb}
+use Rattle.format.specs.Bytes.{at}
 use Rattle.format.specs.Layout.{fields}
 use Rattle.format.specs.Kind.{Resource, body}
 use Rattle.format.specs.Recipe.{step}
+use Rattle.recipe.specs.Machine.{refers}
 use Rattle.recipe.proofs.Numbers.{passes, fails}
 use Rattle.recipe.proofs.Steps.{turn-judged, stray-resource, resource-turn}
 use Rattle.recipe.proofs.resource.Statement.{statement}
@@ -18,30 +20,33 @@ returns c rs found t ns p e b =
 
 returns-2 : tie.Need-returns-2
 returns-2 c rs found t ns p e b =
-    let g = c .before .before in
+    let g = c .before .before .before in
     let n = g .before .before in
     let a = n .before .before .before .args in
-    sym (resource-turn t (a .st) p (a .bytes .now) _ rs (a .found) found ns e (n .newest .given .1) b ∙ rw (← g .get-u32 .ensures, fails (c .before .names .ensures) (c .if1 .taken)))
+    let v : g .from-body .result .cache .0 ≡ refers Resource (a .bytes .now) = ap (λ vs. at vs 0) (g .from-body .ensures) in
+    sym (resource-turn t (a .st) p (a .bytes .now) _ rs (a .found) found ns e (n .newest .given .1) b ∙ rw (← v, fails (c .before .is-cache .ensures) (c .if1 .taken)))
 
 returns-3 : tie.Need-returns-3
 returns-3 c rs found t ns p e b =
     let d = c .before in
-    let g = d .before .before in
+    let g = d .before .before .before in
     let n = g .before .before in
     let a = n .before .before .before .args in
+    let v : g .from-body .result .cache .0 ≡ refers Resource (a .bytes .now) = ap (λ vs. at vs 0) (g .from-body .ensures) in
     sym (resource-turn t (a .st) p (a .bytes .now) _ rs (a .found) found ns e (n .newest .given .1) b
-    ∙ rw (← g .get-u32 .ensures, passes (d .before .names .ensures) (d .if1 .left), le-leb _ _ (c .if2 .taken)))
+    ∙ rw (← v, passes (d .before .is-cache .ensures) (d .if1 .left), le-leb _ _ (c .if2 .taken)))
 
 returns-4 : tie.Need-returns-4
 returns-4 c rs found t ns p e b =
     let f = c .before in
     let d = f .before in
-    let g = d .before .before in
+    let g = d .before .before .before in
     let n = g .before .before in
     let a = n .before .before .before .args in
+    let v : g .from-body .result .cache .0 ≡ refers Resource (a .bytes .now) = ap (λ vs. at vs 0) (g .from-body .ensures) in
     rw (c .grown .ensures)
     (sym (resource-turn t (a .st) p (a .bytes .now) _ rs (a .found) found ns e (n .newest .given .1) b
-    ∙ rw (← g .get-u32 .ensures, passes (d .before .names .ensures) (d .if1 .left), lt-leb _ _ (f .if2 .left))))
+    ∙ rw (← v, passes (d .before .is-cache .ensures) (d .if1 .left), lt-leb _ _ (f .if2 .left))))
 
 pub resource-spec : {M : Type 1} → statement M
 resource-spec =

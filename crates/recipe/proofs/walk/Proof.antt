@@ -22,7 +22,7 @@ abbrev μ-loop : tie.MeasureT-loop
 μ-loop recipe table at₀ st₀ marks₀ at st marks = length recipe - at
 
 loop-holds : tie.Need-loop-holds Inv-loop μ-loop
-loop-holds c = rw (c .before .new .ensures, c .new2 .ensures) (starts-so _ _, (refl, refl, refl))
+loop-holds c = rw (c .before .before .new .ensures, c .new2 .ensures, c .before .first .ensures) (starts-so _ _, (refl, refl, refl))
 
 returns : tie.Need-returns Inv-loop μ-loop
 returns c =
@@ -41,40 +41,42 @@ returns-2 c =
     sym (ap outlined (cut-off _ _ _ _ (l .loop .inv .0) (k .before .before .loop-test .taken) _ e (rw (c .before .rest .ensures, n .body-len .ensures) at (c .if1 .taken))))
 
 judge-requires : tie.Need-judge-requires Inv-loop μ-loop
-judge-requires c κs = sound _ _ _ _ (c .before .before .before .before .before .before .before .before .before .before .loop .inv .0)
+judge-requires c κs = sound _ _ _ _ (c .before .before .before .before .before .before .before .before .before .before .before .before .loop .inv .0)
 
 add-end-2 : tie.Need-add-end-2 Inv-loop μ-loop
 add-end-2 c = omega (arith, body-short (meantKind (c .before .before .kind .given .0 .0)))
 
 loop-less : tie.Need-loop-less Inv-loop μ-loop
-loop-less c = omega (arith, c .past-cells .ensures .0, c .before .before .before .before .before .before .before .before .before .before .before .before .before .before .loop-test .taken)
+loop-less c = omega (arith, c .past-cells .ensures .0, c .before .before .before .before .before .before .before .before .before .before .before .before .before .before .before .before .loop-test .taken)
 
 loop-again : tie.Need-loop-again Inv-loop μ-loop
 loop-again c =
     let y = c .before .before .before .before in
-    let g = y .before in
-    let f = g .before in
+    let g = y .before .before in
+    let q = g .before in
+    let f = q .before in
     let n = f .before .before in
     let j = n .before .before in
     let k = j .before .before in
     let l = k .before .before .before in
     let e = sym (k .kind-of .ensures) ∙ ap named (j .kind .given .1) in
-    let t = looked-turn _ _ _ _ (l .loop .inv .0) (meantKind (j .kind .given .0 .0)) (f .before .rest .result .now) (g .looked .result .ty) (y .judge .result) e (g .looked .ensures .1) (y .judge .ensures) in
-    let d = rw (c .before .before .next .given .1, f .before .rest .ensures) at t in
+    let t = looked-turn _ _ _ _ (l .loop .inv .0) (meantKind (j .kind .given .0 .0)) (f .before .rest .result .now) (g .look-for .result .ty) (y .judge .result) e (rw (q .refers .ensures) at (g .look-for .ensures .1)) (y .judge .ensures) in
+    let d = rw (c .before .before .more .given .1, f .before .rest .ensures) at t in
     let s = goes _ _ _ _ (l .loop .inv .0) (k .before .before .loop-test .taken) _ e (rw (f .before .rest .ensures, n .body-len .ensures) at (f .if1 .left)) _ d in
-    (c .past-cells .ensures .1 _ (rw (n .body-len .ensures) s), g .looked .ensures .0)
+    (c .past-cells .ensures .1 _ (rw (n .body-len .ensures) s), g .look-for .ensures .0)
 
 returns-3 : tie.Need-returns-3 Inv-loop μ-loop
 returns-3 c =
     let y = c .before .before .before in
-    let g = y .before in
-    let f = g .before in
+    let g = y .before .before in
+    let q = g .before in
+    let f = q .before in
     let n = f .before .before in
     let j = n .before .before in
     let k = j .before .before in
     let l = k .before .before .before in
     let e = sym (k .kind-of .ensures) ∙ ap named (j .kind .given .1) in
-    let t = looked-turn _ _ _ _ (l .loop .inv .0) (meantKind (j .kind .given .0 .0)) (f .before .rest .result .now) (g .looked .result .ty) (y .judge .result) e (g .looked .ensures .1) (y .judge .ensures) in
+    let t = looked-turn _ _ _ _ (l .loop .inv .0) (meantKind (j .kind .given .0 .0)) (f .before .rest .result .now) (g .look-for .result .ty) (y .judge .result) e (rw (q .refers .ensures) at (g .look-for .ensures .1)) (y .judge .ensures) in
     let d = rw (c .before .refusal .given .1, f .before .rest .ensures) at t in
     sym (ap outlined (stops _ _ _ _ (l .loop .inv .0) (k .before .before .loop-test .taken) _ e (rw (f .before .rest .ensures, n .body-len .ensures) at (f .if1 .left)) (c .before .refusal .given .0 .0) d))
 
@@ -89,6 +91,7 @@ walk-spec =
     μ-loop
     (λ c κs. search needs)
     (λ c κs. search needs)
+    (λ c κs. search needs)
     loop-holds
     (λ c. search needs)
     (λ c κs. search needs)
@@ -101,7 +104,8 @@ walk-spec =
     (λ c. search needs)
     (λ c κs. search needs)
     returns-2
-    (λ c κs. c .before .before .before .before .before .before .before .before .before .loop .inv .1)
+    (λ c κs. search needs)
+    (λ c κs. c .before .before .before .before .before .before .before .before .before .before .loop .inv .1)
     judge-requires
     (λ c. search needs)
     (λ c κs. search needs)

@@ -11,7 +11,7 @@ use Rattle.rows.proofs.hmat_row.Tie as tie
 
 returns-5 : tie.Need-returns-5
 unfolding rowOf matches part
-returns-5 c = simp (ne-eqb _ 0 (c .match .rest .0 .0 .1), ne-eqb _ 1 (c .match .rest .0 .1), ne-eqb _ 2 (c .match .rest .1), ← c .before .get-u16 .ensures, eq-eqb _ _ (c .before .before .if1 .left))
+returns-5 c = simp (ne-eqb _ 0 (c .match .rest .0 .0 .1), ne-eqb _ 1 (c .match .rest .0 .1), ne-eqb _ 2 (c .match .rest .1), ← c .before .long-type .ensures, eq-eqb _ _ (c .before .before .if1 .left))
 
 pub hmat-row-spec : {M : Type 1} → statement M
 unfolding column
@@ -24,7 +24,8 @@ hmat-row-spec =
     (λ c κs. search needs)
     (λ c κs. search needs)
     (λ c κs. search needs)
-    (λ c. c .when .ensures ∙ by-column domains _ (c .before .before .before .if1 .left) (c .before .before .get-u16 .ensures) (c .before .match .keys1) refl)
-    (λ c. c .when2 .ensures ∙ by-column matrices _ (c .before .before .before .before .if1 .left) (c .before .before .before .get-u16 .ensures) (c .before .before .match .keys2) (c .before .matrix-fits .ensures))
-    (λ c. c .when3 .ensures ∙ by-column sides _ (c .before .before .before .if1 .left) (c .before .before .get-u16 .ensures) (c .before .match .keys3) refl)
+    (λ c κs. search needs)
+    (λ c. c .when .ensures ∙ by-column domains _ (c .before .before .before .if1 .left) (c .before .before .long-type .ensures) (c .before .match .keys1) refl)
+    (λ c. c .when2 .ensures ∙ by-column matrices _ (c .before .before .before .before .if1 .left) (c .before .before .before .long-type .ensures) (c .before .before .match .keys2) (c .before .fits2 .ensures))
+    (λ c. c .when3 .ensures ∙ by-column sides _ (c .before .before .before .before .if1 .left) (c .before .before .before .long-type .ensures) (c .before .before .match .keys3) (c .before .fits3 .ensures))
     returns-5)

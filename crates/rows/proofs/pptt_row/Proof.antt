@@ -11,7 +11,7 @@ use Rattle.rows.proofs.pptt_row.Tie as tie
 
 returns-4 : tie.Need-returns-4
 unfolding rowOf matches part
-returns-4 c = simp (ne-eqb _ 0 (c .match .rest .0 .1), ne-eqb _ 1 (c .match .rest .1), ← c .before .get-u8 .ensures, eq-eqb _ _ (c .before .before .if1 .left))
+returns-4 c = simp (ne-eqb _ 0 (c .match .rest .0 .1), ne-eqb _ 1 (c .match .rest .1), ← c .before .short-type .ensures, eq-eqb _ _ (c .before .before .if1 .left))
 
 pub pptt-row-spec : {M : Type 1} → statement M
 unfolding column
@@ -23,6 +23,6 @@ pptt-row-spec =
     (λ c κs. search needs)
     (λ c κs. search needs)
     (λ c κs. search needs)
-    (λ c. c .when .ensures ∙ by-column processors _ (c .before .before .before .before .if1 .left) (c .before .before .before .get-u8 .ensures) (c .before .before .match .keys1) (c .before .processor-fits .ensures))
-    (λ c. c .when2 .ensures ∙ by-column caches _ (c .before .before .before .if1 .left) (c .before .before .get-u8 .ensures) (c .before .match .keys2) refl)
+    (λ c. c .when .ensures ∙ by-column processors _ (c .before .before .before .before .if1 .left) (c .before .before .before .short-type .ensures) (c .before .before .match .keys1) (c .before .fits2 .ensures))
+    (λ c. c .when2 .ensures ∙ by-column caches _ (c .before .before .before .if1 .left) (c .before .before .short-type .ensures) (c .before .match .keys2) refl)
     returns-4)

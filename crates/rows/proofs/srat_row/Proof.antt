@@ -11,7 +11,7 @@ use Rattle.rows.proofs.srat_row.Tie as tie
 
 returns-5 : tie.Need-returns-5
 unfolding rowOf matches part
-returns-5 c = simp (ne-eqb _ 1 (c .match .rest .0 .0 .1), ne-eqb _ 5 (c .match .rest .0 .1), ne-eqb _ 7 (c .match .rest .1), ← c .before .get-u8 .ensures, eq-eqb _ _ (c .before .before .if1 .left))
+returns-5 c = simp (ne-eqb _ 1 (c .match .rest .0 .0 .1), ne-eqb _ 5 (c .match .rest .0 .1), ne-eqb _ 7 (c .match .rest .1), ← c .before .short-type .ensures, eq-eqb _ _ (c .before .before .if1 .left))
 
 pub srat-row-spec : {M : Type 1} → statement M
 unfolding column
@@ -23,7 +23,7 @@ srat-row-spec =
     (λ c κs. search needs)
     (λ c κs. search needs)
     (λ c κs. search needs)
-    (λ c. c .when .ensures ∙ by-column memories _ (c .before .before .before .if1 .left) (c .before .before .get-u8 .ensures) (c .before .match .keys1) refl)
-    (λ c. c .when2 .ensures ∙ by-column initiators _ (c .before .before .before .if1 .left) (c .before .before .get-u8 .ensures) (c .before .match .keys2) refl)
-    (λ c. c .when3 .ensures ∙ by-column rintcs _ (c .before .before .before .if1 .left) (c .before .before .get-u8 .ensures) (c .before .match .keys3) refl)
+    (λ c. c .when .ensures ∙ by-column memories _ (c .before .before .before .if1 .left) (c .before .before .short-type .ensures) (c .before .match .keys1) refl)
+    (λ c. c .when2 .ensures ∙ by-column initiators _ (c .before .before .before .if1 .left) (c .before .before .short-type .ensures) (c .before .match .keys2) refl)
+    (λ c. c .when3 .ensures ∙ by-column rintcs _ (c .before .before .before .if1 .left) (c .before .before .short-type .ensures) (c .before .match .keys3) refl)
     returns-5)

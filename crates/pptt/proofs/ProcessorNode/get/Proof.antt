@@ -7,6 +7,7 @@ use Rattle.format.specs.Form.{processor, layout}
 use Rattle.format.specs.Read.{shown}
 use Rattle.laws.proofs.Offsets.{fields-at}
 use Rattle.pptt.specs.Processor.{processorIn}
+use Rattle.pptt.proofs.Processors.{parent-record}
 use Rattle.pptt.proofs.ProcessorNode.get.Statement.{statement}
 use Rattle.pptt.proofs.ProcessorNode.get.Tie as tie
 
@@ -15,6 +16,7 @@ unfolding processorIn layout shown
 returns c =
     let s = c .before .before .before .before .before .before .args in
     let bs = drop (s .at) (s .table .now) in
+    let p = parent-record bs in
     rw (fields-at asIs (layout (processor (value (part bs 16 4)))) bs 0) (cc)
 
 pub get-spec : {M : Type 1} → statement M

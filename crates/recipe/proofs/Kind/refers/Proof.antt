@@ -1,6 +1,8 @@
 -- `Kind::refers` meets its contract: the reference of each body stands at its place.
-use mathlib.Core.Path.{_∙_}
+use mathlib.Core.Path.{ap}
 use borrow.Author.Needs.{needs}
+use Rattle.format.specs.Bytes.{at}
+use Rattle.recipe.specs.declared.Reference.the-variants.{Processor, Cache}
 use Rattle.recipe.proofs.Kind.refers.Statement.{statement}
 use Rattle.recipe.proofs.Kind.refers.Tie as tie
 
@@ -25,9 +27,9 @@ refers-spec =
     (λ c. search needs)
     (λ c. search needs)
     (λ c. search needs)
-    (λ c. c .get-u32 .ensures ∙ rw (c .before .enum-told .given .1))
-    (λ c. c .get-u322 .ensures ∙ rw (c .before .enum-told2 .given .1))
-    (λ c. c .get-u323 .ensures ∙ rw (c .before .enum-told3 .given .1))
+    (λ c. rw (c .before .enum-told .given .1) (ap (λ v. Processor (record { 0 = v })) (c .parent-in .ensures)))
+    (λ c. rw (c .before .before .enum-told2 .given .1) (ap (λ vs. Cache (record { 0 = at vs 0 })) (c .before .from-body .ensures)))
+    (λ c. rw (c .before .enum-told3 .given .1) (ap (λ v. Cache (record { 0 = v })) (c .next-level-in .ensures)))
     (λ c. search needs)
     (λ c. search needs)
     (λ c. search needs)

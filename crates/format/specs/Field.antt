@@ -1,0 +1,40 @@
+-- A node as a recipe says it: the kind that makes it, its records, and the first of its fields that is outside its range.
+use Prim.Native.Nat.{ℕ, _+_}
+use mathlib.Core.List.{List, [], _∷_}
+use mathlib.Core.Bool.{Bool, true, false}
+use Rattle.format.specs.Bytes.{pick}
+use Rattle.format.specs.Layout.{Item, wide}
+use Rattle.format.specs.Form.{Form, processor, cache, memory, acpi, pci, rintc, domain, matrix, side, ranges}
+use Rattle.format.specs.Node.{Node}
+use Rattle.format.specs.Kind.{Kind, Processor, Cache, Memory, Acpi, Pci, Rintc, Domain, Matrix, Side, body}
+use Rattle.format.specs.Normal.{calls}
+
+-- the kind that makes a node of this form
+abbrev pub maker : Form → Kind
+maker (processor n) = Processor
+maker cache = Cache
+maker memory = Memory
+maker acpi = Acpi
+maker pci = Pci
+maker rintc = Rintc
+maker domain = Domain
+maker (matrix i t) = Matrix
+maker (side n) = Side
+
+-- the records of one node
+abbrev pub callsOfNode : Node → List ℕ
+callsOfNode n = calls (n .form) (n .values)
+
+-- the place of the first field whose test fails; 0 where none does; p: the place of the first
+unfoldable pub firstBad : ℕ → List Item → List Bool → ℕ
+firstBad p is [] = 0
+firstBad p [] (t ∷ ts) = pick t (firstBad p [] ts) p
+firstBad p (i ∷ is) (t ∷ ts) = pick t (firstBad (p + wide i) is ts) p
+
+-- the place of the first field of a body whose test fails, counted from the kind byte; 0 where none does
+abbrev pub badIn : Kind → List Bool → ℕ
+badIn k ts = firstBad 1 (body k) ts
+
+-- of a node: the first field outside its range
+unfoldable pub badField : Node → ℕ
+badField n = badIn (maker (n .form)) (ranges (n .form) (n .values))

@@ -1,0 +1,19 @@
+-- `Cell::bad_field` meets its contract: both indices are tested.
+use borrow.Author.Needs.{needs}
+use borrow.Author.Tests.{le-ltb, lt-ltb}
+use Rattle.format.specs.Kind.{body}
+use Rattle.format.specs.Field.{firstBad}
+use Rattle.hmat.proofs.Cell.bad_field.Statement.{statement}
+use Rattle.hmat.proofs.Cell.bad_field.Tie as tie
+
+pub bad-field-spec : {M : Type 1} → statement M
+unfolding firstBad body
+bad-field-spec =
+    tie.close
+    (tie.spec
+    (λ c. search needs)
+    (λ c. rw (le-ltb _ _ (c .if1 .taken)))
+    (λ c. search needs)
+    (λ c. search needs)
+    (λ c. rw (lt-ltb _ _ (c .before .before .if1 .left), le-ltb _ _ (c .if2 .taken)))
+    (λ c. rw (lt-ltb _ _ (c .before .before .if1 .left), lt-ltb _ _ (c .if2 .left))))

@@ -1,0 +1,27 @@
+-- `SystemLocality::from_body` meets its contract: each field stands at its offset.
+use borrow.Author.Needs.{needs}
+use Rattle.format.specs.Kind.{Matrix, body}
+use Rattle.hmat.proofs.Bodies.{fields-now}
+use Rattle.hmat.proofs.SystemLocality.from_body.Statement.{statement}
+use Rattle.hmat.proofs.SystemLocality.from_body.Tie as tie
+
+returns : tie.Need-returns
+unfolding body
+returns c =
+    let d = c .before .before in
+    let e = d .before .before in
+    rw (fields-now Matrix, e .before .get-u8 .ensures, e .get-u82 .ensures, d .before .get-u83 .ensures, d .get-u64 .ensures, c .before .get-u84 .ensures, c .get-u85 .ensures)
+
+pub from-body-spec : {M : Type 1} → statement M
+from-body-spec =
+    tie.close
+    (tie.spec
+    (λ c κs. search needs)
+    (λ c κs. search needs)
+    (λ c κs. search needs)
+    (λ c κs. search needs)
+    (λ c κs. search needs)
+    (λ c. search needs)
+    (λ c κs. search needs)
+    (λ c. search needs)
+    returns)

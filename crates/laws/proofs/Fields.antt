@@ -1,0 +1,149 @@
+-- A node between its two writings: its record in a table and its record in a recipe.
+use mathlib.Core.Path.{_≡_, refl, sym, ap, _∙_}
+use Prim.Native.Nat.{ℕ, zero, suc, _+_, _*_, _^_, _<_}
+use mathlib.Core.List.{List, [], _∷_, _++_, map}
+use mathlib.Core.Bool.{Bool, true, false, not}
+use native.Mathlib.Omega.{arith}
+use native.Mathlib.Nat.{mul-pos, one-le-pow, zero-lt-suc}
+use lib.ListN.{length, drop}
+use lib.Dec.{eqb}
+use borrow.Author.Tests.{eq-eqb, ne-eqb, not-true, not-false}
+use Rattle.format.specs.Bytes.{pick, both, all, le, value, join, part}
+use Rattle.format.specs.Layout.{Item, fix, fld, two, to, orNone, wide, arity, asIs, width, layWith, fieldsWith, fixedOk}
+use Rattle.format.specs.Form.{Form, layout, ranges}
+use Rattle.format.specs.Node.{Node, node, bytes, nodeAt}
+use Rattle.format.specs.Kind.{Kind, Processor, Resource, Cache, Memory, Acpi, Pci, Rintc, Domain, Matrix, Initiator, Target, Cell, Side, Handle, kindNumber, body}
+use Rattle.format.specs.Normal.{call}
+use Rattle.format.specs.Read.{sound}
+use Rattle.format.specs.Field.{firstBad, badField}
+use Rattle.laws.specs.Numbers.{numbers}
+use Rattle.laws.specs.Offsets.{fieldsAt, fixedAt}
+use Rattle.laws.proofs.Offsets.{fields-at, fixed-at}
+use Rattle.laws.proofs.Bytes.{value-parts}
+use Rattle.laws.proofs.Finds.{never}
+use Rattle.laws.proofs.Lays.{length-lay}
+use Rattle.laws.proofs.Joins.{lay-join}
+
+-- ---- what a test of code says of the test that it stands for
+
+pub failed : {a b : Bool} → a ≡ b → not a ≡ true → b ≡ false
+failed {a} e h = sym e ∙ not-true a h
+
+pub passed : {a b : Bool} → a ≡ b → not a ≡ false → b ≡ true
+passed {a} e h = sym e ∙ not-false a h
+
+pub differs : {x y v : ℕ} → x ≡ y → (x ≡ v → ⊥) → eqb y v ≡ false
+differs {x} {y} {v} e h = rw e at (ne-eqb x v h)
+
+pub equals : {x y v : ℕ} → x ≡ y → x ≡ v → eqb y v ≡ true
+equals {x} {y} {v} e h = rw e at (eq-eqb x v h)
+
+-- ---- ranges
+
+all-first : (t : Bool) (ts : List Bool) → all (t ∷ ts) ≡ both t (all ts)
+all-first true [] = refl
+all-first false [] = refl
+all-first t (u ∷ ts) = refl
+
+-- every test passes where the first bad field has no place
+pub all-bad : (p : ℕ) (is : List Item) (ts : List Bool) → 0 < p → all ts ≡ eqb (firstBad p is ts) 0
+unfolding firstBad
+all-bad p is [] h = refl
+all-bad p [] (t ∷ ts) h = rw (all-first t ts, all-bad p [] ts h) (by t)
+  where
+    by : (t : Bool) → both t (eqb (firstBad p [] ts) 0) ≡ eqb (pick t (firstBad p [] ts) p) 0
+    by true = refl
+    by false = rw (ne-eqb p 0 (λ e. omega arith))
+all-bad p (i ∷ is) (t ∷ ts) h = rw (all-first t ts, all-bad (p + wide i) is ts (omega arith)) (by t)
+  where
+    by : (t : Bool) → both t (eqb (firstBad (p + wide i) is ts) 0) ≡ eqb (pick t (firstBad (p + wide i) is ts) p) 0
+    by true = refl
+    by false = rw (ne-eqb p 0 (λ e. omega arith))
+
+pub good-fields : (n : Node) → all (ranges (n .form) (n .values)) ≡ eqb (badField n) 0
+unfolding badField
+good-fields n = all-bad 1 _ (ranges (n .form) (n .values)) (omega arith)
+
+-- a record is sound where its fixed values are, and its node has no bad field
+pub sound-node : (f : Form) (bs : List ℕ) → sound f bs ≡ both (fixedOk (layout f) bs) (eqb (badField (nodeAt asIs f bs)) 0)
+unfolding sound nodeAt
+sound-node f bs = rw (good-fields (node f (fieldsWith asIs (layout f) bs)))
+
+-- ---- by places
+
+pub fixed-now : (f : Form) (bs : List ℕ) → fixedOk (layout f) bs ≡ fixedAt (layout f) bs 0
+fixed-now f bs = fixed-at (layout f) bs 0
+
+pub body-at : (k : Kind) (f : Form) (bs : List ℕ) → node f (fieldsWith asIs (body k) bs) ≡ node f (fieldsAt asIs (body k) bs 0)
+body-at k f bs = rw (fields-at asIs (body k) bs 0)
+
+-- ---- calls as numbers at their widths
+
+pub call-join : (k : Kind) (vs : List ℕ) → call k vs ≡ join (1 ∷ map wide (body k)) (kindNumber k ∷ numbers asIs (body k) vs)
+unfolding join le
+call-join k vs = rw (lay-join asIs (body k) vs) (by k)
+  where
+    by : (k : Kind) → kindNumber k ∷ join (map wide (body k)) (numbers asIs (body k) vs) ≡ le 1 (kindNumber k) ++ join (map wide (body k)) (numbers asIs (body k) vs)
+    by Processor = refl
+    by Resource = refl
+    by Cache = refl
+    by Memory = refl
+    by Acpi = refl
+    by Pci = refl
+    by Rintc = refl
+    by Domain = refl
+    by Matrix = refl
+    by Initiator = refl
+    by Target = refl
+    by Cell = refl
+    by Side = refl
+    by Handle = refl
+
+pub length-call : (k : Kind) (vs : List ℕ) → length (call k vs) ≡ suc (width (body k))
+length-call k vs = ap suc (length-lay asIs (body k) vs)
+
+-- ---- layouts without a reference
+
+abbrev pub plain : List Item → Bool
+plain [] = true
+plain (fix w v ∷ is) = plain is
+plain (fld w ∷ is) = plain is
+plain (two w k ∷ is) = plain is
+plain (to t ∷ is) = false
+plain (orNone t ∷ is) = false
+
+module _ (g : ℕ → ℕ) where
+  lay-plain : (is : List Item) (vs : List ℕ) → plain is ≡ true → layWith g is vs ≡ layWith asIs is vs
+  unfolding layWith
+  lay-plain [] vs h = refl
+  lay-plain (fix w v ∷ is) vs h = rw (lay-plain is vs h)
+  lay-plain (fld w ∷ is) vs h = rw (lay-plain is (drop 1 vs) h)
+  lay-plain (two w k ∷ is) vs h = rw (lay-plain is (drop 2 vs) h)
+  lay-plain (to t ∷ is) vs h = never h
+  lay-plain (orNone t ∷ is) vs h = never h
+
+  pub fields-plain : (is : List Item) (bs : List ℕ) → plain is ≡ true → fieldsWith g is bs ≡ fieldsWith asIs is bs
+  unfolding fieldsWith
+  fields-plain [] bs h = refl
+  fields-plain (fix w v ∷ is) bs h = rw (fields-plain is (drop w bs) h)
+  fields-plain (fld w ∷ is) bs h = rw (fields-plain is (drop w bs) h)
+  fields-plain (two w k ∷ is) bs h = rw (fields-plain is (drop w bs) h)
+  fields-plain (to t ∷ is) bs h = never h
+  fields-plain (orNone t ∷ is) bs h = never h
+
+  pub bytes-plain : (n : Node) → plain (layout (n .form)) ≡ true → bytes g n ≡ bytes asIs n
+  unfolding bytes
+  bytes-plain n h = lay-plain (layout (n .form)) (n .values) h
+
+-- ---- zeros in two parts
+
+eqb-sum : (a b k : ℕ) → 0 < k → eqb (a + k * b) 0 ≡ both (eqb a 0) (eqb b 0)
+eqb-sum zero zero k h = eq-eqb (0 + k * 0) 0 (omega arith)
+eqb-sum zero (suc b) k h =
+    let l : 0 < k * suc b = mul-pos h (omega arith) in
+    rw (ne-eqb (0 + k * suc b) 0 (λ e. omega arith), ne-eqb (suc b) 0 (λ e. omega arith))
+eqb-sum (suc a) b k h = rw (ne-eqb (suc a + k * b) 0 (λ e. omega arith), ne-eqb (suc a) 0 (λ e. omega arith))
+
+-- zeros are zeros in both parts
+pub zeros-parts : (bs : List ℕ) (p a b : ℕ) → eqb (value (part bs p (a + b))) 0 ≡ both (eqb (value (part bs p a)) 0) (eqb (value (part bs (p + a) b)) 0)
+zeros-parts bs p a b = rw (← value-parts bs p a b) (eqb-sum (value (part bs p a)) (value (part bs (p + a) b)) (256 ^ a) (one-le-pow a 256 (zero-lt-suc 255)))

@@ -1,0 +1,14 @@
+-- `is_cache` meets its contract, test by test.
+use borrow.Author.Needs.{needs}
+use borrow.Author.Tests.{le-ltb, lt-ltb, eq-eqb, ne-eqb}
+use Rattle.recipe.proofs.is_cache.Statement.{statement}
+use Rattle.recipe.proofs.is_cache.Tie as tie
+
+pub is-cache-spec : {M : Type 1} → statement M
+is-cache-spec =
+    tie.close
+    (tie.spec
+    (λ c. rw (eq-eqb _ _ (c .if1 .taken)))
+    (λ c. search needs)
+    (λ c. rw (ne-eqb _ _ (c .before .before .if1 .left), le-ltb _ _ (c .if2 .taken)))
+    (λ c. rw (ne-eqb _ _ (c .before .before .if1 .left), lt-ltb _ _ (c .if2 .left))))
