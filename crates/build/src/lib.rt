@@ -42,35 +42,35 @@ use srat::MemoryAffinity;
 use srat::RintcAffinity;
 
 // The newest record: its place, how many resources or handles it has, a matrix's I and T.
-pub struct Latest {
-    pub place: usize,
-    pub count: u32,
-    pub initiators: u32,
-    pub targets: u32,
+struct Latest {
+    place: usize,
+    count: u32,
+    initiators: u32,
+    targets: u32,
 }
 
 // The marks, and the place of the record that was looked for last: a processor's, or a cache's.
-pub struct Found {
-    pub marks: Marks,
-    pub processor: ProcessorHandle,
-    pub cache: CacheHandle,
+struct Found {
+    marks: Marks,
+    processor: ProcessorHandle,
+    cache: CacheHandle,
 }
 
 // Where the pass stands: the next record of the recipe, the end of the table, its newest record, the sum of its bytes, and the records that were named last.
-pub struct State {
-    pub at: usize,
-    pub end: usize,
-    pub latest: Latest,
-    pub sum: Checksum,
-    pub marks: Marks,
+struct State {
+    at: usize,
+    end: usize,
+    latest: Latest,
+    sum: Checksum,
+    marks: Marks,
 }
 
 // What a record does to the table: so many bytes from a place on change, and so many more come at the end.
-pub struct Change {
-    pub from: usize,
-    pub len: usize,
-    pub more: usize,
-    pub latest: Latest,
+struct Change {
+    from: usize,
+    len: usize,
+    more: usize,
+    latest: Latest,
 }
 
 // The length of the table, or a refusal: without room the length that is needed, else the place in the recipe.

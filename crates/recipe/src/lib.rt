@@ -73,28 +73,6 @@ impl Kind {
     // What makes(..) says of a record that joins a node.
     const NOTHING: u8 = 255;
 
-    // The kind byte.
-    pub fn number(self) -> u8
-        ensures { λ r. ⌜ r ≡ kindNumber (meantKind self) ⌝ }
-    {
-        match self {
-            Kind::Processor => ProcessorNode::KIND,
-            Kind::Resource => Resource::KIND,
-            Kind::Cache => CacheNode::KIND,
-            Kind::Memory => MemoryAffinity::KIND,
-            Kind::Acpi => GenericInitiator::ACPI_KIND,
-            Kind::Pci => GenericInitiator::PCI_KIND,
-            Kind::Rintc => RintcAffinity::KIND,
-            Kind::Domain => MemoryProximityDomain::KIND,
-            Kind::Matrix => SystemLocality::KIND,
-            Kind::Initiator => Value::INITIATOR_KIND,
-            Kind::Target => Value::TARGET_KIND,
-            Kind::Cell => Cell::KIND,
-            Kind::Side => MemorySideCache::KIND,
-            Kind::Handle => SmbiosHandle::KIND,
-        }
-    }
-
     // The number of bytes that follow the kind byte.
     pub fn body_len(self) -> usize
         ensures { λ r. ⌜ r ≡ width (body (meantKind self)) ⌝ }
@@ -249,7 +227,7 @@ pub enum Checked {
 // ---- the state
 
 // The newest node, if a record can join it, with its counts.
-pub enum Newest {
+enum Newest {
     Processor(u8),
     Matrix(u32, u32),
     Side(u16),
@@ -257,14 +235,14 @@ pub enum Newest {
 }
 
 // What the pass keeps of the nodes so far.
-pub struct State {
-    pub table: Table,
-    pub nodes: usize,
-    pub length: usize,
-    pub newest: Newest,
+struct State {
+    table: Table,
+    nodes: usize,
+    length: usize,
+    newest: Newest,
 }
 
-pub enum Step {
+enum Step {
     Next(State),
     Refused(Refusal),
 }
@@ -315,15 +293,15 @@ impl State {
 // ---- references
 
 // A node that was looked for: its record, and its type.
-pub struct Found {
-    pub mark: Mark,
-    pub ty: u8,
+struct Found {
+    mark: Mark,
+    ty: u8,
 }
 
 // The marks, and the type of the node that was looked for last.
-pub struct Looked {
-    pub marks: Marks,
-    pub ty: u8,
+struct Looked {
+    marks: Marks,
+    ty: u8,
 }
 
 // The first record.
