@@ -192,15 +192,15 @@ pub enum Accepted {
 }
 
 // All records, one after the other.
-fn scan(t: Table, c: &[u8], revision: u8, mask: u32) -> Accepted
+fn judge_all(t: Table, c: &[u8], marks: &mut [usize], revision: u8, mask: u32) -> Accepted
+    requires { ⌜ Marked (meant t) (now c) (now marks) ⌝ }
     ensures { λ r. ⌜ acceptedAs r ≡ counted (walk (meant t) revision mask [] (framesOf (meant t) (now (c .entry)))) ⌝ }
 {
     let mut p = t.front();
     let mut count = 0;
-    let mut marks = [t.front(); MARKS];
     while p < c.len() {
-        mark(t, c, &mut marks, p);
-        match judge(t, c, &marks, revision, mask, p) {
+        mark(t, c, marks, p);
+        match judge(t, c, marks, revision, mask, p) {
             Step::Next(q) => {
                 p = q;
                 count += 1;
@@ -209,6 +209,18 @@ fn scan(t: Table, c: &[u8], revision: u8, mask: u32) -> Accepted
         }
     }
     Accepted::Records(count)
+}
+
+// The same, with room for marks where there are references: in a PPTT.
+fn scan(t: Table, c: &[u8], revision: u8, mask: u32) -> Accepted
+    ensures { λ r. ⌜ acceptedAs r ≡ counted (walk (meant t) revision mask [] (framesOf (meant t) (now (c .entry)))) ⌝ }
+{
+    if let Table::Pptt = t {
+        let mut marks = [t.front(); MARKS];
+        return judge_all(t, c, &mut marks, revision, mask);
+    }
+    let mut one = [t.front(); 1];
+    judge_all(t, c, &mut one, revision, mask)
 }
 
 // Judges a table by the rows that the mask has.

@@ -1,84 +1,34 @@
--- `scan` meets its contract. The invariant: past so many records, what the whole walk gives is still to come from here on.
-use mathlib.Core.Path.{_≡_, refl, sym, subst}
-use Prim.Native.Nat.{ℕ, _-_, _≤_}
-use native.Mathlib.Omega.{arith}
+-- `scan` meets its contract: marks that all stand at the front are good.
+use mathlib.Core.Path.{sym, subst}
+use Prim.Native.Nat.{ℕ}
 use borrow.Author.Needs.{needs}
-use lib.ListN.{length, replicate}
+use lib.ListN.{replicate}
 use Rattle.header.specs.Header.{meant}
 use Rattle.read.specs.Places.{Marked}
-use Rattle.read.proofs.Marks.{came-reached, marked-front}
-use Rattle.read.proofs.Walks.{Scanning, scan-first, scan-end, scan-bad, scan-moves, scan-next}
+use Rattle.read.proofs.Marks.{marked-front}
 use Rattle.read.proofs.scan.Statement.{statement}
 use Rattle.read.proofs.scan.Tie as tie
 
-abbrev Inv-loop : tie.InvT-loop
-Inv-loop t c revision mask p₀ count₀ marks₀ p count marks = (count ≤ p) × Scanning (meant t) c revision mask p count × Marked (meant t) c marks × (256 ≡ length marks)
+judge-all-requires : tie.Need-judge-all-requires
+judge-all-requires c κs =
+    let a = c .before .before .before .before .before .args in
+    subst (λ (m : ℕ). Marked (meant (a .t)) (a .c .now) (replicate 256 m)) (sym (c .before .front .ensures)) (marked-front (meant (a .t)) (a .c .now) 256)
 
-abbrev μ-loop : tie.MeasureT-loop
-μ-loop t c revision mask p₀ count₀ marks₀ p count marks = length c - p
-
-loop-holds : tie.Need-loop-holds Inv-loop μ-loop
-loop-holds c =
-    let a = c .before .before .before .args in
-    (omega arith, rw (c .before .front .ensures) (scan-first (meant (a .t)) (a .c .now) (a .revision) (a .mask)), subst (λ (m : ℕ). Marked (meant (a .t)) (a .c .now) (replicate 256 m)) (sym (c .front2 .ensures)) (marked-front (meant (a .t)) (a .c .now) 256), refl)
-
-mark-requires : tie.Need-mark-requires Inv-loop μ-loop
-mark-requires c κs =
-    let l = c .before .before in
-    (l .loop .inv .2, came-reached _ _ (l .loop .inv .1 .1))
-
-judge-requires : tie.Need-judge-requires Inv-loop μ-loop
-judge-requires c κs = c .before .before .mark .ensures
-
-loop-less : tie.Need-loop-less Inv-loop μ-loop
-loop-less c =
-    let j = c .before .before .before in
-    let l = j .before .before .before .before .before .before in
-    let a = l .before .before .before .before .args in
-    let e = rw (c .before .q .given .1) at (j .judge .ensures) in
-    let m = scan-moves (meant (a .t)) (a .c .now) (a .revision) (a .mask) (l .loop .p) (l .loop .count) (l .loop .inv .1) (j .before .before .before .before .before .loop-test .taken) _ e in
-    omega arith
-
-loop-again : tie.Need-loop-again Inv-loop μ-loop
-loop-again c =
-    let j = c .before .before .before in
-    let l = j .before .before .before .before .before .before in
-    let a = l .before .before .before .before .args in
-    let e = rw (c .before .q .given .1) at (j .judge .ensures) in
-    let m = scan-moves (meant (a .t)) (a .c .now) (a .revision) (a .mask) (l .loop .p) (l .loop .count) (l .loop .inv .1) (j .before .before .before .before .before .loop-test .taken) _ e in
-    (omega arith, scan-next (meant (a .t)) (a .c .now) (a .revision) (a .mask) (l .loop .p) (l .loop .count) (l .loop .inv .1) (j .before .before .before .before .before .loop-test .taken) _ e, j .before .before .before .mark .ensures, search needs)
-
-returns : tie.Need-returns Inv-loop μ-loop
-returns c =
-    let j = c .before .before .before in
-    let l = j .before .before .before .before .before .before in
-    let a = l .before .before .before .before .args in
-    let e = rw (c .before .r .given .1) at (j .judge .ensures) in
-    scan-bad (meant (a .t)) (a .c .now) (a .revision) (a .mask) (l .loop .p) (l .loop .count) (l .loop .inv .1) (j .before .before .before .before .before .loop-test .taken) _ _ e
-
-returns-2 : tie.Need-returns-2 Inv-loop μ-loop
-returns-2 c =
-    let l = c .before in
-    let a = l .before .before .before .before .args in
-    scan-end (meant (a .t)) (a .c .now) (a .revision) (a .mask) (l .loop .p) (l .loop .count) (l .loop .inv .1) (c .loop-test .left)
+judge-all-requires-2 : tie.Need-judge-all-requires-2
+judge-all-requires-2 c κs =
+    let a = c .before .before .before .before .args in
+    subst (λ (m : ℕ). Marked (meant (a .t)) (a .c .now) (replicate 1 m)) (sym (c .before .front2 .ensures)) (marked-front (meant (a .t)) (a .c .now) 1)
 
 pub scan-spec : {M : Type 1} → statement M
 scan-spec =
     tie.close
     (tie.spec
-    Inv-loop
-    μ-loop
+    (λ c. search needs)
     (λ c κs. search needs)
+    (λ c. search needs)
+    judge-all-requires
+    (λ c. search needs)
     (λ c κs. search needs)
-    loop-holds
     (λ c. search needs)
-    mark-requires
-    (λ c. search needs)
-    judge-requires
-    (λ c. search needs)
-    (λ c. search needs)
-    loop-less
-    loop-again
-    (λ c. search needs)
-    returns
-    returns-2)
+    judge-all-requires-2
+    (λ c. search needs))
