@@ -105,7 +105,7 @@ impl Table {
 
     pub const HMAT_CODE: u8 = 2;
 
-    pub fn code(self) -> u8
+    fn code(self) -> u8
         ensures { λ r. ⌜ r ≡ code (meant self) ⌝ }
     {
         match self {

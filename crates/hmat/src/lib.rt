@@ -516,7 +516,7 @@ impl SystemLocality {
     }
 
     // Zeros, fixed values, counts and length of a record.
-    pub fn is_fixed(row: &[u8]) -> bool
+    fn is_fixed(row: &[u8]) -> bool
         ensures { λ r. ⌜ r ≡ fixedOk (layout (formIn matrices (now (row .entry)))) (now (row .entry)) ⌝ }
     {
         if field::get_u16(row, 0) != Self::TYPE {
@@ -958,7 +958,7 @@ impl MemorySideCache {
     }
 
     // Zeros, fixed values, count and length of a record.
-    pub fn is_fixed(row: &[u8]) -> bool
+    fn is_fixed(row: &[u8]) -> bool
         ensures { λ r. ⌜ r ≡ fixedOk (layout (formIn sides (now (row .entry)))) (now (row .entry)) ⌝ }
     {
         if field::get_u16(row, 0) != Self::TYPE {

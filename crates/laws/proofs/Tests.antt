@@ -1,5 +1,5 @@
 -- Tests joined: by cases on the first.
-use mathlib.Core.Path.{_≡_, refl, sym}
+use mathlib.Core.Path.{_≡_, refl}
 use mathlib.Core.Bool.{Bool, true, false}
 use Rattle.format.specs.Bytes.{both}
 
@@ -14,7 +14,3 @@ both-right false = refl
 pub both-false : (b : Bool) → both b false ≡ false
 both-false true = refl
 both-false false = refl
-
-pub both-swap : (a b c : Bool) → both a (both b c) ≡ both b (both a c)
-both-swap true b c = refl
-both-swap false b c = sym (both-false b)

@@ -8,7 +8,7 @@ use borrow.Author.Tests.{ltb-false}
 use Rattle.format.specs.Bytes.{pick}
 use Rattle.marks.specs.declared.Mark.{Mark}
 use Rattle.marks.specs.declared.Marks.{Marks}
-use Rattle.marks.specs.Marks.{all, upTo, towardCache, withParent, withCache}
+use Rattle.marks.specs.Marks.{upTo, towardCache, withParent, withCache}
 
 -- what holds of every mark
 abbrev pub Every : (Mark → Type 0) → Marks → Type 0
@@ -49,6 +49,3 @@ with-parent-keeps P m ms p (a, c, b) = (p, c, b)
 
 pub with-cache-keeps : (P : Mark → Type 0) (i : ℕ) (m : Mark) (ms : Marks) → P m → Every P ms → Every P (withCache i m ms)
 with-cache-keeps P i m ms p (a, c, b) = either (Every P) (ltb i (ms .cache .nodes)) _ _ (a, c, p) (a, p, b)
-
-pub all-keeps : (P : Mark → Type 0) (m : Mark) → P m → Every P (all m)
-all-keeps P m p = (p, p, p)

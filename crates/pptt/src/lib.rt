@@ -338,7 +338,7 @@ pub enum AllocationType {
 }
 
 impl AllocationType {
-    pub fn bits(self) -> u8
+    fn bits(self) -> u8
         ensures { λ r. ⌜ r ≡ allocationBits self ⌝ }
     {
         match self {
@@ -356,7 +356,7 @@ pub enum CacheType {
 }
 
 impl CacheType {
-    pub fn bits(self) -> u8
+    fn bits(self) -> u8
         ensures { λ r. ⌜ r ≡ typeBits self ⌝ }
     {
         match self {
@@ -373,7 +373,7 @@ pub enum WritePolicy {
 }
 
 impl WritePolicy {
-    pub fn bits(self) -> u8
+    fn bits(self) -> u8
         ensures { λ r. ⌜ r ≡ policyBits self ⌝ }
     {
         match self {
@@ -621,7 +621,7 @@ impl CacheNode {
         }
     }
     // Zeros and fixed values of a record.
-    pub fn is_fixed(row: &[u8]) -> bool
+    fn is_fixed(row: &[u8]) -> bool
         ensures { λ r. ⌜ r ≡ fixedOk (layout cache) (now (row .entry)) ⌝ }
     {
         if field::get_u8(row, 0) != Self::TYPE {

@@ -119,7 +119,7 @@ impl MemoryAffinity {
     }
 
     // Zeros and fixed values of a record.
-    pub fn is_fixed(row: &[u8]) -> bool
+    fn is_fixed(row: &[u8]) -> bool
         ensures { λ r. ⌜ r ≡ fixedOk (layout memory) (now (row .entry)) ⌝ }
     {
         if field::get_u8(row, 0) != Self::TYPE {
@@ -201,9 +201,9 @@ pub enum Handle {
 }
 
 impl Handle {
-    pub const ACPI: u8 = 0;
+    const ACPI: u8 = 0;
 
-    pub const PCI: u8 = 1;
+    const PCI: u8 = 1;
 
     const MAX_DEVICE: u8 = 31;
 
@@ -421,7 +421,7 @@ impl GenericInitiator {
     }
 
     // Zeros, fixed values and handle type of a record.
-    pub fn is_fixed(row: &[u8]) -> bool
+    fn is_fixed(row: &[u8]) -> bool
         ensures { λ r. ⌜ r ≡ fixedOk (layout (formIn initiators (now (row .entry)))) (now (row .entry)) ⌝ }
     {
         if field::get_u8(row, 0) != Self::TYPE {
@@ -659,7 +659,7 @@ impl RintcAffinity {
     }
 
     // Zeros and fixed values of a record.
-    pub fn is_fixed(row: &[u8]) -> bool
+    fn is_fixed(row: &[u8]) -> bool
         ensures { λ r. ⌜ r ≡ fixedOk (layout rintc) (now (row .entry)) ⌝ }
     {
         if field::get_u8(row, 0) != Self::TYPE {
