@@ -36,7 +36,7 @@ sign-back srat = refl
 sign-back hmat = refl
 
 module _ (b : List ℕ) where
-  sign-one : (t u : Table) → Signed t b → Signed u b → t ≡ u
+  pub sign-one : (t u : Table) → Signed t b → Signed u b → t ≡ u
   sign-one t u s v = let e : some t ≡ some u = sym (sign-back t) ∙ (ap spelt (sym s ∙ v) ∙ sign-back u) in cc
 
   module _ (t : Table) (s : Signed t b) where

@@ -29,6 +29,7 @@ pub mod Promises
 pub mod Buffers
 pub mod Tables
 pub mod Judges
+pub mod Readers
 pub mod Fields
 pub mod Readings
 pub mod Outs

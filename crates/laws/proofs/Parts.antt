@@ -22,14 +22,14 @@ all-at P (y ∷ ys) zero {x} a e = let z : y ≡ x = cc in rw z at (a .0)
 all-at P (y ∷ ys) (suc n) a e = all-at P ys n (a .1) e
 
 -- the records of a table, and the one that an answer is on
-record On (b : List ℕ) (mask n : ℕ) (a : Reading) : Type 0 where
-  all : List Seen
-  one : Seen
-  accepted : accept b mask ≡ given all
-  here : getElem? all n ≡ some one
-  answer : readingOf (length all) one ≡ a
+pub record On (b : List ℕ) (mask n : ℕ) (a : Reading) : Type 0 where
+  pub all : List Seen
+  pub one : Seen
+  pub accepted : accept b mask ≡ given all
+  pub here : getElem? all n ≡ some one
+  pub answer : readingOf (length all) one ≡ a
 
-read-on : (b : List ℕ) (mask n : ℕ) (a : Reading) → read b mask n ≡ given a → On b mask n a
+pub read-on : (b : List ℕ) (mask n : ℕ) (a : Reading) → read b mask n ≡ given a → On b mask n a
 unfolding read
 read-on b mask n a e =
     let (ss, q, f) = then-given (accept b mask) (λ ss. andThen (chosen ss n) (λ s. given (readingOf (length ss) s))) e in

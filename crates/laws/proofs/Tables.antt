@@ -18,13 +18,14 @@ use Rattle.format.specs.Read.{lengthIn, Seen, accept, listIn, partOf, read, rea
 use Rattle.format.specs.Out.{every}
 use Rattle.laws.specs.Demand1.{Says}
 use Rattle.laws.specs.Demand2.{Lies}
-use Rattle.laws.specs.Demand3.{rowFor, answerOn, Shows}
+use Rattle.laws.specs.Demand3.{rowFor, answerOn, Shows, ShowsNormal}
 use Rattle.laws.proofs.Bytes.{value-le}
 use Rattle.laws.proofs.Nodes.{length-bytes}
 use Rattle.laws.proofs.Links.{starts-rise}
 use Rattle.laws.proofs.Good.{GoodNode, Good, seenOf, seenAll, walk-good, form-rec, fields-seen}
 use Rattle.laws.proofs.Heads.{judged, walked-is, length-header, length-records}
 use Rattle.laws.proofs.Builds.{Means, meaning-good}
+use Rattle.laws.proofs.Trips.{normal-same}
 use Rattle.laws.proofs.Promises.{length-table}
 use Rattle.laws.proofs.Refusals.{meaning-given, exactly}
 
@@ -237,3 +238,10 @@ module _ (r : List ℕ) (m : Meaning) (b : Bytes r) (says : Says r m) where
 -- of every recipe that builds
 pub built-table : (r : List ℕ) (k n : ℕ) → Bytes r → build r k ≡ given n → (m : Meaning) × Says r m × Lies r m × Shows r m
 built-table r k n b e = let (m, s, l, z) = exactly r k .length n .0 e in (m, s, lies r m b s, shows r m b s)
+
+-- and what is shown is what the normal form says
+pub shows-normal : (r : List ℕ) (k n : ℕ) → Bytes r → build r k ≡ given n → ShowsNormal r
+shows-normal r k n b e =
+    let (m, s, l, z) = built-table r k n b e in
+    let i = meaning-given r m .1 s in
+    record { said = m; byNormal = normal-same r m b i; byRecipe = i; shows = z }

@@ -15,7 +15,7 @@ use Rattle.format.specs.Layout.{width, layWith, lay, fieldsWith, fixedOk}
 use Rattle.format.specs.Table.{Table, pptt, srat, hmat, tables, sign, revision, tail, told, front, limit, Head, headOf}
 use Rattle.format.specs.Node.{Node, sizes, starts}
 use Rattle.format.specs.Recipe.{Meaning, means, meaning}
-use Rattle.format.specs.Normal.{recipeOf}
+use Rattle.format.specs.Normal.{recipeOf, normal}
 use Rattle.format.specs.Build.{records, header, checkOf, summed, tableFrom, lengthOf}
 use Rattle.format.specs.Read.{signed, lengthIn, own, headFault, judgeHead, frames, Seen, walk, walked}
 use Rattle.format.specs.Out.{every, nodesFrom, headIn, outOf, meaningOf}
@@ -36,6 +36,11 @@ normal-means r m b e =
     let h = x .head in
     let y = meaning-back (m .head .table) (m .head .identity) (m .nodes) (x .identity) (x .good) (x .short) in
     rw (← h) at y
+
+-- the normal form means the same
+pub normal-same : (r : List ℕ) (m : Meaning) → Bytes r → meaning r ≡ given m → meaning (normal r) ≡ given m
+unfolding normal
+normal-same r m b e = rw e (normal-means r m b e)
 
 -- ---- the header of an accepted table
 
