@@ -27,6 +27,7 @@ pub mod Parts
 pub mod Trips
 pub mod Promises
 pub mod Buffers
+pub mod Rounds
 pub mod Tables
 pub mod Judges
 pub mod Readers

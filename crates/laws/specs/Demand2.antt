@@ -1,18 +1,18 @@
 -- Demand 2: building and reading out undo each other, and a built table lies as the layouts say.
 use mathlib.Core.Path.{_≡_}
-use Prim.Native.Nat.{ℕ, _+_, _-_, _%_}
+use Prim.Native.Nat.{ℕ, _+_, _-_, _%_, _≤_, _<_}
 use mathlib.Core.List.{List, _∷_, _++_}
 use lib.ListN.{length, take}
-use Rattle.format.specs.Bytes.{at, part, sum}
+use Rattle.format.specs.Bytes.{refused, given, at, part, over, sum}
 use Rattle.format.specs.Layout.{lay, layWith}
 use Rattle.format.specs.Table.{code, sign, revision, tail, told, front}
 use Rattle.format.specs.Form.{size, layout}
 use Rattle.format.specs.Node.{Node, sizes, starts, placeOf}
 use Rattle.format.specs.Recipe.{Meaning}
-use Rattle.format.specs.Build.{fitting, build, table}
+use Rattle.format.specs.Build.{fitting, build, table, built}
 use Rattle.format.specs.Normal.{normal}
 use Rattle.format.specs.Read.{lengthIn, own}
-use Rattle.format.specs.Out.{readOut, recipe}
+use Rattle.format.specs.Out.{readOut, recipe, outWritten}
 
 -- of a recipe that builds a table of n bytes
 pub record Built (r : List ℕ) (n : ℕ) : Type 0 where
@@ -33,6 +33,34 @@ pub record Rebuilt (b : List ℕ) : Type 0 where
   pub room : (k : ℕ) → build (recipe b) k ≡ fitting 9 k (lengthIn b)
   -- its recipe is its own normal form
   pub settled : normal (recipe b) ≡ recipe b
+
+-- ---- one call behind the other
+
+-- building recipe r into out answered n, and its first n bytes are read out into buffer
+pub record ThereAndBack (r out buffer : List ℕ) (n : ℕ) : Type 0 where
+  -- what is lent to reading out is the recipe's table
+  pub lent : take n (built r out) ≡ table r
+  -- with room: the length of the normal form, which then stands at the front of buffer, and the rest of buffer is kept
+  pub room : length (normal r) ≤ length buffer
+      → (readOut (take n (built r out)) (length buffer) ≡ given (length (normal r))) × (outWritten (take n (built r out)) buffer ≡ over buffer 0 (normal r))
+  -- without: refusal 31 with the length needed, and buffer is as it was
+  pub noRoom : length buffer < length (normal r)
+      → (readOut (take n (built r out)) (length buffer) ≡ refused 31 (length (normal r))) × (outWritten (take n (built r out)) buffer ≡ buffer)
+
+-- reading out table b into buffer answered n, and its first n bytes are built into out
+pub record BackAndThere (b out buffer : List ℕ) (n : ℕ) : Type 0 where
+  -- what is lent to building is the table's recipe
+  pub lent : take n (outWritten b buffer) ≡ recipe b
+  -- with room: the length of the table's own bytes, which then stand at the front of out, and the rest of out is kept
+  pub room : length (own b) ≤ length out
+      → (build (take n (outWritten b buffer)) (length out) ≡ given (length (own b))) × (built (take n (outWritten b buffer)) out ≡ over out 0 (own b))
+  -- without: refusal 9 with the length needed, and out is as it was
+  pub noRoom : length out < length (own b)
+      → (build (take n (outWritten b buffer)) (length out) ≡ refused 9 (length (own b))) × (built (take n (outWritten b buffer)) out ≡ out)
+  -- this length is the one that the table's header holds
+  pub long : length (own b) ≡ lengthIn b
+
+-- ---- what stands where
 
 -- of a recipe that means m, whose nodes are listed newest first: what stands where in its table
 pub record Lies (r : List ℕ) (m : Meaning) : Type 0 where
