@@ -57,7 +57,7 @@ pub struct Record<'a> {
     /// How many records the table has.
     pub count: usize,
     /// The type in its frame.
-    pub kind: u16,
+    pub ty: u16,
     pub place: usize,
     pub length: usize,
     pub node: Node,
@@ -176,7 +176,7 @@ impl<'a> Record<'a> {
         let (at, length) = (answer[4] as usize, answer[5] as usize);
         Record {
             count,
-            kind: answer[0] as u16,
+            ty: answer[0] as u16,
             place: answer[1] as usize,
             length: answer[2] as usize,
             node: node(answer[3], &answer[FIELDS..]),

@@ -154,7 +154,7 @@ fn records_one_by_one() {
     build(&c3(), &mut table).unwrap();
     assert_eq!(accept(&table, EVERY), Ok(2));
     let processor = read(&table, EVERY, 1).unwrap();
-    assert_eq!((processor.count, processor.kind, processor.place, processor.length), (2, 0, 64, 24));
+    assert_eq!((processor.count, processor.ty, processor.place, processor.length), (2, 0, 64, 24));
     assert_eq!(processor.node, Node::Processor { flags: 0, parent: 0, acpi_processor_id: 0, resources: 1 });
     assert_eq!(processor.part, [36, 0, 0, 0]);
     let unknown = read(&table, 1, 0).unwrap();

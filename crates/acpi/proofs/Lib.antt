@@ -1,2 +1,4 @@
 pub mod Answers
 pub mod Records
+pub mod Unique
+pub mod Rounds

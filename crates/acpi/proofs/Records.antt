@@ -1,25 +1,21 @@
 -- The record that a reading call answers is the one at its place, and its part is the end of its bytes: by the laws of reading and of parts.
 use mathlib.Core.Path.{_≡_, refl, sym, ap, _∙_}
-use Prim.Native.Nat.{ℕ, zero, suc, _+_, _-_, _≤_, _<_}
+use Prim.Native.Nat.{ℕ, zero, suc, _+_, _-_, _≤_}
 use mathlib.Core.List.{List, [], _∷_}
 use mathlib.Core.Option.{Option, none, some}
-use mathlib.Core.Logic.{⊎-elim}
 use native.Mathlib.Omega.{arith}
 use lib.ListN.{length, take, drop, getElem?, length-drop}
 use lib.Seq.{drop-drop, drop-length, take-nil}
-use Rattle.format.specs.Bytes.{given, at, part, over}
-use Rattle.format.specs.Table.{Table}
+use Rattle.format.specs.Bytes.{given, part, over}
 use Rattle.format.specs.Form.{Form, processor, cache, memory, acpi, pci, rintc, domain, matrix, side}
 use Rattle.format.specs.Row.{Row, formIn}
-use Rattle.format.specs.Read.{signed, Seen, accept, Reading, reading, readingOf, chosen, listIn, partOf, read, readPart}
+use Rattle.format.specs.Read.{Seen, accept, Reading, reading, readingOf, listIn, partOf, read, readPart}
 use Rattle.laws.proofs.Bytes.{over-next}
-use Rattle.laws.proofs.Finds.{then-given, or-given}
 use Rattle.laws.proofs.Parts.{seen-part}
-use Rattle.frames.proofs.Places.{lt-or-le}
 use Rattle.read.specs.declared.Shown.{Shown}
 use Rattle.read.specs.Answers.{rowIn, fieldsIn, shownAs}
-use Rattle.read.specs.Places.{counted, bodyIn, seenIn, seenAt, partAt, firstPlace, behind}
-use Rattle.read.proofs.Listing.{read-found, read-lacks, part-found}
+use Rattle.read.specs.Places.{seenAt, partAt}
+use Rattle.read.proofs.Once.{seen-place, among, there}
 use Rattle.acpi.specs.Calls.{numbers, answered}
 
 -- ---- six numbers, and fields behind them
@@ -73,41 +69,10 @@ end-part b p k m l = let e : k - (k - m) ≡ m = omega arith in rw (drop-take, e
 
 -- ---- the record at its place
 
-pub seen-place : (b : List ℕ) (mask p : ℕ) → seenAt b mask p .place ≡ p
-unfolding seenAt
-seen-place b mask p = by (signed b)
-  where
-    by : (o : Option Table) → seenIn o (at b 8) mask p (bodyIn o b p) .place ≡ p
-    by none = refl
-    by (some t) = refl
-
 -- what is shown of the record at a place, and its part, give the numbers afterwards
 pub at-place : (b : List ℕ) (mask p : ℕ) (s : Shown) (bs out os : List ℕ) → shownAs 0 s ≡ readingOf 0 (seenAt b mask p) → bs ≡ partAt b mask p → os ≡ over out 0 (numbers (shownAs 0 s) bs)
     → os ≡ over out 0 (numbers (readingOf 0 (seenAt b mask p)) (partAt b mask p))
 at-place b mask p s bs out os e o w = w ∙ ap (λ (r : Reading). over out 0 (numbers r bs)) e ∙ rw o
-
-part-of : (b : List ℕ) (mask n : ℕ) (ss : List Seen) (s : Seen) → accept b mask ≡ given ss → getElem? ss n ≡ some s → partOf (s .row) (s .body) ≡ readPart b mask n
-unfolding readPart
-part-of b mask n ss s a e = rw (a, e)
-
-module _ (b : List ℕ) (mask n : ℕ) {r : Reading} (is : given r ≡ read b mask n) where
-  -- what is answered is among the records of the table
-  among : (ss : List Seen) × (s : Seen) × (accept b mask ≡ given ss) × (getElem? ss n ≡ some s) × (readingOf (length ss) s ≡ r)
-  unfolding read
-  among =
-      let (ss, a, h) = then-given (accept b mask) _ (sym is) in
-      let (s, c, g) = then-given (chosen ss n) (λ s. given (readingOf (length ss) s)) h in
-      (ss, s, a, or-given 28 (length ss) (getElem? ss n) c, cc)
-
-  -- and is the one that is seen at its place
-  there : (count : ℕ) × (readingOf count (seenAt b mask (behind b n (firstPlace b))) ≡ r) × (partAt b mask (behind b n (firstPlace b)) ≡ readPart b mask n)
-  there =
-      let (ss, s, a, e, q) = among in
-      let c : given (length ss) ≡ counted (accept b mask) = rw a in
-      ⊎-elim
-      (λ (l : n < length ss). let f = read-found b mask (length ss) n c l in let g : readingOf (length ss) (seenAt b mask (behind b n (firstPlace b))) ≡ r = cc in (length ss, g, part-found b mask (length ss) n c l))
-      (λ (l : length ss ≤ n). let f = read-lacks b mask (length ss) n c l in let z : _≡_ {A = ℕ} 0 1 = cc in absurd (omega arith))
-      (lt-or-le n (length ss))
 
 same-at : (b : List ℕ) (mask p count : ℕ) (bs : List ℕ) (r : Reading) → readingOf count (seenAt b mask p) ≡ r → partAt b mask p ≡ bs → (place : ℕ) → seenAt b mask p .place ≡ place
     → numbers (readingOf 0 (seenAt b mask place)) (partAt b mask place) ≡ numbers r bs
@@ -124,7 +89,11 @@ same-numbers b mask n count type place len row vs is =
 pub read-at : (b : List ℕ) (mask n count : ℕ) (s : Shown) (out os : List ℕ) → given (shownAs count s) ≡ read b mask n → os ≡ over out 0 (numbers (readingOf 0 (seenAt b mask (s .place))) (partAt b mask (s .place)))
     → os ≡ answered (read b mask n) (readPart b mask n) out
 unfolding answered
-read-at b mask n count s out os is e = rw (e, same-numbers b mask n count (s .kind) (s .place) (s .length) (rowIn (s .node)) (fieldsIn (s .node)) is, ← is)
+read-at b mask n count s out os is e = rw (e, same-numbers b mask n count (s .ty) (s .place) (s .length) (rowIn (s .node)) (fieldsIn (s .node)) is, ← is)
+
+part-of : (b : List ℕ) (mask n : ℕ) (ss : List Seen) (s : Seen) → accept b mask ≡ given ss → getElem? ss n ≡ some s → partOf (s .row) (s .body) ≡ readPart b mask n
+unfolding readPart
+part-of b mask n ss s a e = rw (a, e)
 
 lies-at : (b : List ℕ) (s : Seen) (place len : ℕ) (bs : List ℕ) → s .body ≡ part b (s .place) (length (s .body)) → s .place ≡ place → length (s .body) ≡ len → partOf (s .row) (s .body) ≡ bs
     → part b (place + (len - length bs)) (length bs) ≡ bs

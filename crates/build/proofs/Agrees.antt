@@ -10,15 +10,14 @@ use borrow.Author.Tests.{eqb-true}
 use Rattle.format.specs.Bytes.{pick, at, over}
 use Rattle.format.specs.Layout.{Item, fix, fld, two, to, orNone, arity, number, numberWith, isGood, layWith, refsGood}
 use Rattle.format.specs.Table.{pptt, limit}
-use Rattle.format.specs.Form.{matrix, layout}
-use Rattle.format.specs.Node.{Node, node, Entry, bytes, sizes, starts, atOrdinal, placeOf}
+use Rattle.format.specs.Node.{Node, Entry, sizes, starts, atOrdinal, placeOf}
 use Rattle.format.specs.Build.{records}
 use Rattle.laws.proofs.Finds.{never}
 use Rattle.laws.proofs.Lays.{both-true}
-use Rattle.laws.proofs.Shapes.{Plain, plain-matrix}
+use Rattle.laws.proofs.Faults.{length-starts}
 use Rattle.laws.proofs.Good.{Good}
 use Rattle.build.specs.Write.{placeIn}
-use Rattle.build.proofs.Walks.{place-among, length-starts}
+use Rattle.build.proofs.Walks.{place-among}
 
 -- ---- a good reference is an ordinal of a node
 
@@ -51,21 +50,6 @@ module _ (f g : ℕ → ℕ) (ok : ℕ → ℕ → Bool) (none : f 0 ≡ g 0) (s
   lay-agrees (i ∷ is) vs h =
       let (a, b) = both-true (isGood ok i (number i vs)) (refsGood ok is (drop (arity i) vs)) h in
       rw (number-agrees i vs a, lay-agrees is (drop (arity i) vs) b)
-
--- ---- records without references
-
-pub lay-plain : (f g : ℕ → ℕ) (is : List Item) (vs : List ℕ) → Plain is → layWith f is vs ≡ layWith g is vs
-unfolding layWith
-lay-plain f g [] vs p = refl
-lay-plain f g (fix w v ∷ is) vs p = rw (lay-plain f g is vs p)
-lay-plain f g (fld w ∷ is) vs p = rw (lay-plain f g is (drop 1 vs) p)
-lay-plain f g (two w k ∷ is) vs p = rw (lay-plain f g is (drop 2 vs) p)
-lay-plain f g (to t ∷ is) vs p = absurd p
-lay-plain f g (orNone t ∷ is) vs p = absurd p
-
-pub matrix-plain : (f g : ℕ → ℕ) (i t : ℕ) (vs : List ℕ) → bytes f (node (matrix i t) vs) ≡ bytes g (node (matrix i t) vs)
-unfolding bytes layout
-matrix-plain f g i t vs = lay-plain f g (layout (matrix i t)) vs (plain-matrix i t)
 
 -- ---- among records
 

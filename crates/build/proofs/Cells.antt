@@ -6,15 +6,15 @@ use mathlib.Core.Option.{some}
 use native.Mathlib.Omega.{arith}
 use native.Mathlib.Nat.{add-zero}
 use lib.ListN.{length, take, drop, getD}
-use lib.Seq.{drop-drop}
 use Rattle.format.specs.Bytes.{at, le, value, part, over, sum}
 use Rattle.format.specs.Layout.{asIs, width, fields}
 use Rattle.format.specs.Table.{hmat}
 use Rattle.format.specs.Kind.{Cell, kindOf, body}
 use Rattle.format.specs.Recipe.{Meaning}
 use Rattle.format.specs.Build.{checkOf}
-use Rattle.laws.proofs.Bytes.{length-le, value-byte, part-take}
+use Rattle.laws.proofs.Bytes.{length-le, value-byte, part-window}
 use Rattle.laws.proofs.Offsets.{fields-at}
+use Rattle.laws.proofs.Fields.{fields-now}
 use Rattle.header.specs.declared.Table as named
 use Rattle.header.specs.declared.Table.the-variants.{Hmat}
 use Rattle.header.specs.Header.{meant}
@@ -28,21 +28,17 @@ use Rattle.build.proofs.Steps.{whole, in-buffer, goes}
 
 -- ---- a cell, read in the n bytes behind the kind byte at p
 
-window : (r : List ℕ) (p n i k : ℕ) → i + k ≤ n → value (part (take n (drop p r)) i k) ≡ value (part r (p + i) k)
-unfolding part
-window r p n i k h = rw (part-take (drop p r) n i k h, drop-drop i p r)
-
 module _ (r : List ℕ) (p n : ℕ) (c : declared.Cell) (e : cellFields c ≡ fields (body Cell) (take n (drop (p + 1) r))) (h : 4 ≤ n) where
   read : (c .«initiator_idx» ≡ at r (p + 1)) × (c .«target_idx» ≡ at r (p + 2)) × (c .value ≡ value (part r (p + 3) 2))
   unfolding body
   read =
-      let g = e ∙ fields-at asIs (body Cell) (take n (drop (p + 1) r)) 0 in
+      let g = e ∙ fields-now Cell (take n (drop (p + 1) r)) in
       let one : p + 1 + 0 ≡ p + 1 = omega arith in
       let two : p + 1 + 1 ≡ p + 2 = omega arith in
       let three : p + 1 + 2 ≡ p + 3 = omega arith in
-      let i = ap (λ (vs : List ℕ). at vs 0) g ∙ window r (p + 1) n 0 1 (omega arith) in
-      let t = ap (λ (vs : List ℕ). at vs 1) g ∙ window r (p + 1) n 1 1 (omega arith) in
-      let v = ap (λ (vs : List ℕ). at vs 2) g ∙ window r (p + 1) n 2 2 (omega arith) in
+      let i = ap (λ (vs : List ℕ). at vs 0) g ∙ ap value (part-window r (p + 1) n 0 1 (omega arith)) in
+      let t = ap (λ (vs : List ℕ). at vs 1) g ∙ ap value (part-window r (p + 1) n 1 1 (omega arith)) in
+      let v = ap (λ (vs : List ℕ). at vs 2) g ∙ ap value (part-window r (p + 1) n 2 2 (omega arith)) in
       (rw one at i ∙ sym (value-byte r (p + 1)), rw two at t ∙ sym (value-byte r (p + 2)), rw three at v)
 
   pub value-is : c .value ≡ value (part r (p + 3) 2)

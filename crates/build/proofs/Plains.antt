@@ -2,14 +2,14 @@
 use mathlib.Core.Path.{_≡_, ap}
 use Prim.Native.Nat.{ℕ}
 use mathlib.Core.List.{List, []}
-use mathlib.Core.Bool.{true}
 use native.Mathlib.Omega.{arith}
 use Rattle.format.specs.Bytes.{at, over}
 use Rattle.format.specs.Layout.{asIs, layWith}
 use Rattle.format.specs.Form.{Form, processor, cache, side, size, layout}
 use Rattle.format.specs.Node.{Node, node, bytes}
 use Rattle.format.specs.Recipe.{unset}
-use Rattle.laws.proofs.Fields.{plain, bytes-plain}
+use Rattle.laws.proofs.Shapes.{Plain, plain-matrix}
+use Rattle.laws.proofs.Fields.{bytes-plain}
 use Rattle.pptt.specs.declared.ProcessorHandle.{ProcessorHandle}
 use Rattle.pptt.specs.declared.ProcessorNode.{ProcessorNode}
 use Rattle.pptt.specs.declared.CacheHandle.{CacheHandle}
@@ -18,13 +18,12 @@ use Rattle.pptt.specs.Processor.{processorFields, processorNode, processorOf, f
 use Rattle.pptt.specs.Cache.{cacheShown, cacheNode, cacheBefore}
 use Rattle.hmat.specs.declared.SystemLocality.{SystemLocality}
 use Rattle.hmat.specs.declared.MemorySideCache.{MemorySideCache}
-use Rattle.hmat.specs.Hmat.{matrixFields, matrixCall, matrixNode, sideFields, sideHead, sideFront}
+use Rattle.hmat.specs.Hmat.{matrixCall, matrixNode, sideFields, sideHead, sideFront}
 use Rattle.build.specs.Write.{placeIn, appended, unsetMatrix}
-use Rattle.build.proofs.Agrees.{matrix-plain}
 
 -- without references
-pub plain-appended : (f : Form) (vs out : List ℕ) (p : ℕ) (n : Node) → n ≡ node f vs → plain (layout f) ≡ true → over out p (bytes asIs n) ≡ appended p (node f vs) out
-plain-appended f vs out p n e h = rw (e, bytes-plain (placeIn out) (node f vs) h)
+pub plain-appended : (f : Form) (vs out : List ℕ) (p : ℕ) (n : Node) → n ≡ node f vs → Plain (layout f) → over out p (bytes asIs n) ≡ appended p (node f vs) out
+plain-appended f vs out p n e h = rw (e, bytes-plain asIs (placeIn out) (node f vs) h)
 
 -- a processor, with its parent
 pub processor-appended : (vs out : List ℕ) (p : ℕ) (n m : ProcessorNode) (h : ProcessorHandle) → processorNode n [] ≡ node (processor 0) vs
@@ -44,9 +43,9 @@ cache-appended vs out p n m h e f g = let y : cacheShown n ≡ vs = ap (λ (x : 
 
 -- a matrix of which nothing is set
 pub matrix-appended : (vs out : List ℕ) (p : ℕ) (n : SystemLocality) → matrixCall n ≡ vs → over out p (bytes asIs (matrixNode n)) ≡ appended p (unsetMatrix vs) out
-unfolding unset
+unfolding unset layout
 matrix-appended vs out p n e =
-    rw (← e) (ap (λ (l : List ℕ). over out p l) (matrix-plain asIs (placeIn out) (n .initiators) (n .targets) (unset (n .initiators) (n .targets) (matrixFields n))))
+    rw (← e) (ap (λ (l : List ℕ). over out p l) (bytes-plain asIs (placeIn out) (matrixNode n) (plain-matrix (n .initiators) (n .targets))))
 
 -- a side cache without handles
 pub side-appended : (vs out : List ℕ) (p : ℕ) (n : MemorySideCache) → sideHead n ≡ node (side 0) vs → over out p (sideFront n) ≡ appended p (node (side 0) vs) out

@@ -22,13 +22,12 @@ use Rattle.laws.proofs.Grows.{passed, kindHome, grows}
 use Rattle.laws.proofs.Builds.{body-fits, kind-home}
 use Rattle.recipe.specs.Machine.{refers}
 use Rattle.marks.specs.declared.Marks.{Marks}
-use Rattle.marks.specs.Marks.{all}
+use Rattle.marks.specs.Marks.{all, Every}
 use Rattle.build.specs.declared.State.{State}
 use Rattle.build.specs.declared.Change.{Change}
 use Rattle.build.specs.Write.{changeOf, wrote}
 use Rattle.build.specs.Held.{headIn, frontOf, Marked, Leading, Reaches, Keeps, Held, Ready, Small, Builds}
-use Rattle.header.proofs.Laws.{front-small}
-use Rattle.build.proofs.Numbers.{front-long}
+use Rattle.header.proofs.Laws.{front-small, front-long}
 use Rattle.build.proofs.Headers.{header-any, finished}
 use Rattle.build.proofs.Sums.{part-laid, sum-front, sum-moves}
 use Rattle.build.proofs.Turns.{Laid, Turned, turned}
@@ -158,7 +157,7 @@ module _ (xs r : List ℕ) (t : Table) (m : Meaning) (s : State) (out : List ℕ
 
     -- the marks of the state after it
     module _ (ms : Marks) (kept : Keeps out (refers k (drop (suc (s .at)) r)) (s .marks) ms) where
-      marked : Marked (drop 1 (added k vs (h .nodes))) (ms .parent) × Marked (drop 1 (added k vs (h .nodes))) (ms .cache) × Marked (drop 1 (added k vs (h .nodes))) (ms .back)
+      marked : Every (Marked (drop 1 (added k vs (h .nodes)))) ms
       marked =
           let y = passed t (h .nodes) k vs (found .sound) in
           let p = y .place in

@@ -4,7 +4,7 @@ use Prim.Native.Nat.{ℕ, zero, suc, _+_, _*_, _≤_, _<_}
 use mathlib.Core.List.{List, [], _∷_, _++_, append-assoc, append-nil}
 use mathlib.Core.Bool.{Bool, true, false}
 use native.Mathlib.Omega.{arith}
-use native.Mathlib.Nat.{zero-add, suc-mul, mul-le-mul}
+use native.Mathlib.Nat.{zero-add}
 use native.Mathlib.Numerals.{add-one}
 use lib.ListN.{length, take, drop, set, replicate, length-append, length-drop, take-append-drop}
 use lib.Seq.{drop-drop, length-take-le}
@@ -13,7 +13,7 @@ use borrow.Author.Tests.{leb-false, ltb-true}
 use Rattle.format.specs.Bytes.{all, at, le, part, over}
 use Rattle.format.specs.Layout.{Item, fld, to, wide, arity, arities, numberWith, layWith, refsGood}
 use Rattle.format.specs.Table.{Table, pptt, srat, hmat, front, limit}
-use Rattle.format.specs.Form.{Form, processor, cache, memory, acpi, pci, rintc, domain, matrix, side, size, layout}
+use Rattle.format.specs.Form.{processor, cache, memory, acpi, pci, rintc, domain, matrix, side, size, layout}
 use Rattle.format.specs.Node.{Node, node, bytes, sizes, starts, atOrdinal, placeOf}
 use Rattle.format.specs.Kind.{Kind, Processor, Resource, Cache, Memory, Acpi, Pci, Rintc, Domain, Matrix, Initiator, Target, Cell, Side, Handle, body}
 use Rattle.format.specs.Recipe.{Newest, newest, resource, handle, setting, step, added}
@@ -26,19 +26,21 @@ use Rattle.laws.proofs.Lays.{Fit, fit-length, both-true}
 use Rattle.laws.proofs.Joins.{lay-append}
 use Rattle.laws.proofs.Nodes.{length-bytes}
 use Rattle.laws.proofs.Fits.{replicate-snoc}
-use Rattle.laws.proofs.Shapes.{Plain, plain-matrix}
+use Rattle.laws.proofs.Shapes.{plain-matrix}
+use Rattle.laws.proofs.Fields.{bytes-plain}
 use Rattle.laws.proofs.Heads.{length-records}
 use Rattle.laws.proofs.Good.{Good}
 use Rattle.laws.proofs.Grows.{View, seesProcessor, seesMatrix, seesSide, seesOther, view, Passed, kindHome}
 use Rattle.pptt.specs.Processor as processors
 use Rattle.hmat.specs.Hmat as sides
 use Rattle.hmat.specs.Settings as matrices
-use Rattle.hmat.proofs.Matrices.{set-in-place}
+use Rattle.hmat.proofs.Matrices.{entry-below, set-in-place}
+use Rattle.hmat.proofs.Sides.{fields-all}
 use Rattle.build.specs.declared.State.{State}
 use Rattle.build.specs.declared.Change.{Change}
 use Rattle.build.specs.Write.{placeIn, appended, unsetMatrix, making, growing, settingAt, sets, setting as setting-of, changeOf, wrote}
 use Rattle.build.specs.Held.{Counts}
-use Rattle.build.proofs.Agrees.{lay-plain, pptt-agrees, named-place}
+use Rattle.build.proofs.Agrees.{pptt-agrees, named-place}
 
 -- ---- before and after
 
@@ -224,10 +226,6 @@ count-processor : (n : ℕ) → arities (layout (processor n)) ≡ 3 + n
 unfolding layout
 count-processor n = rw (arities-one n (to 1) refl) (omega arith)
 
-count-side : (n : ℕ) → arities (layout (side n)) ≡ 3 + n
-unfolding layout
-count-side n = rw (arities-one n (fld 2) refl) (omega arith)
-
 -- one field
 alone : (vs : List ℕ) → length vs ≡ 1 → vs ≡ at vs 0 ∷ []
 alone [] l = absurd (omega arith)
@@ -265,7 +263,7 @@ module _ (xs fs : List ℕ) (s : State) (out : List ℕ) where
   handle-one n v us ns h few =
       let g = placeOf (starts hmat ns) in
       let z = fs ++ records hmat ns in
-      let l : length us ≡ 3 + n = fit-length (layout (side n)) us (h .good .0 .fit) ∙ count-side n in
+      let l : length us ≡ 3 + n = fit-length (layout (side n)) us (h .good .0 .fit) ∙ fields-all n in
       let f = sideFront g n us n in
       let js = layWith g (replicate n (fld 2)) (drop 3 us) in
       let old = side-was g n us l in
@@ -280,11 +278,6 @@ module _ (xs fs : List ℕ) (s : State) (out : List ℕ) where
       (rw (h .counts, add-one n, o) (w ∙ rw (side-front g n us, ← side-is g n us l v)))
 
 -- ---- settings
-
-entry-below : (a b i t : ℕ) → a < i → b < t → a * t + b < i * t
-entry-below a b i t h k =
-    let m : suc a * t ≤ i * t = mul-le-mul h (omega arith) in
-    omega (arith, rw suc-mul at m)
 
 -- a setting lies within its record
 within : (i t : ℕ) (x : Setting) → matrices.Inside i t x → matrices.placeIn 0 i t x + matrices.wideIn x ≤ size (matrix i t)
@@ -366,10 +359,6 @@ module _ (xs fs : List ℕ) (s : State) (out : List ℕ) where
 
 -- ---- every kind
 
-plain : (f g : ℕ → ℕ) (x : Form) (vs : List ℕ) → Plain (layout x) → bytes f (node x vs) ≡ bytes g (node x vs)
-unfolding bytes
-plain f g x vs p = lay-plain f g (layout x) vs p
-
 module _ {xs fs : List ℕ} {ns : List Node} {s : State} {out : List ℕ} where
   among : Laid xs fs pptt ns s out → (n : Node) → Good pptt (n ∷ ns) → bytes (placeIn out) n ≡ bytes (placeOf (starts pptt ns)) n
   unfolding bytes
@@ -383,12 +372,12 @@ module _ {xs fs : List ℕ} {ns : List Node} {s : State} {out : List ℕ} where
   turned Processor vs h f p g = made h (node (processor 0) vs) 0 0 refl (among h (node (processor 0) vs) g)
   turned Resource vs h f p g = resource-turned xs fs s out vs f (view ns) (p .place) (p .room) (p .refs) h
   turned Cache vs h f p g = made h (node cache vs) 0 0 tt (among h (node cache vs) g)
-  turned Memory vs h f p g = made h (node memory vs) 0 0 tt (plain (placeIn out) (placeOf (starts srat ns)) memory vs tt)
-  turned Acpi vs h f p g = made h (node acpi vs) 0 0 tt (plain (placeIn out) (placeOf (starts srat ns)) acpi vs tt)
-  turned Pci vs h f p g = made h (node pci vs) 0 0 tt (plain (placeIn out) (placeOf (starts srat ns)) pci vs tt)
-  turned Rintc vs h f p g = made h (node rintc vs) 0 0 tt (plain (placeIn out) (placeOf (starts srat ns)) rintc vs tt)
-  turned Domain vs h f p g = made h (node domain vs) 0 0 tt (plain (placeIn out) (placeOf (starts hmat ns)) domain vs tt)
-  turned Matrix vs h f p g = made h (unsetMatrix vs) (at vs 4) (at vs 5) (refl, refl) (plain (placeIn out) (placeOf (starts hmat ns)) (matrix (at vs 4) (at vs 5)) (unsetMatrix vs .values) (plain-matrix (at vs 4) (at vs 5)))
+  turned Memory vs h f p g = made h (node memory vs) 0 0 tt (bytes-plain (placeIn out) (placeOf (starts srat ns)) (node memory vs) tt)
+  turned Acpi vs h f p g = made h (node acpi vs) 0 0 tt (bytes-plain (placeIn out) (placeOf (starts srat ns)) (node acpi vs) tt)
+  turned Pci vs h f p g = made h (node pci vs) 0 0 tt (bytes-plain (placeIn out) (placeOf (starts srat ns)) (node pci vs) tt)
+  turned Rintc vs h f p g = made h (node rintc vs) 0 0 tt (bytes-plain (placeIn out) (placeOf (starts srat ns)) (node rintc vs) tt)
+  turned Domain vs h f p g = made h (node domain vs) 0 0 tt (bytes-plain (placeIn out) (placeOf (starts hmat ns)) (node domain vs) tt)
+  turned Matrix vs h f p g = made h (unsetMatrix vs) (at vs 4) (at vs 5) (refl, refl) (bytes-plain (placeIn out) (placeOf (starts hmat ns)) (unsetMatrix vs) (plain-matrix (at vs 4) (at vs 5)))
   turned Initiator vs h f p g =
       setting-turned xs fs s out (λ i t. ltb (at vs 0) i ∷ []) (initiator (at vs 0) (at vs 1)) (λ i t r. ltb-true (at vs 0) i r) (view ns) (p .place) (p .field) h
   turned Target vs h f p g =
@@ -396,5 +385,5 @@ module _ {xs fs : List ℕ} {ns : List Node} {s : State} {out : List ℕ} where
   turned Cell vs h f p g =
       setting-turned xs fs s out (λ i t. ltb (at vs 0) i ∷ ltb (at vs 1) t ∷ []) (cell (at vs 0) (at vs 1) (at vs 2))
       (λ i t r. let (a, b) = both-true (ltb (at vs 0) i) (ltb (at vs 1) t) r in (ltb-true (at vs 0) i a, ltb-true (at vs 1) t b)) (view ns) (p .place) (p .field) h
-  turned Side vs h f p g = made h (node (side 0) vs) 0 0 refl (plain (placeIn out) (placeOf (starts hmat ns)) (side 0) vs tt)
+  turned Side vs h f p g = made h (node (side 0) vs) 0 0 refl (bytes-plain (placeIn out) (placeOf (starts hmat ns)) (node (side 0) vs) tt)
   turned Handle vs h f p g = handle-turned xs fs s out vs f (view ns) (p .place) (p .room) h

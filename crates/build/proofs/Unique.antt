@@ -2,16 +2,18 @@
 use mathlib.Core.Path.{_≡_, refl}
 use Prim.Native.Nat.{ℕ}
 use mathlib.Core.List.{List}
-use lib.ListN.{length}
 use lib.Dec.{eqb}
 use Rattle.format.specs.Bytes.{pick, Answer, refused, given}
-use Rattle.format.specs.Build.{build, built}
+use Rattle.laws.specs.Unique.{Fixes}
 use Rattle.laws.proofs.Sole.{sole, sole-meant, sole-pair}
 use Rattle.recipe.specs.declared.Refusal.the-variants.{NoHead, BadKind, Cut, Misplaced, BadField, BadRef, FullNode, TooLong}
 use Rattle.recipe.proofs.Unique.{refusalOf}
 use Rattle.build.specs.declared.Built.{Built}
 use Rattle.build.specs.declared.Built.the-variants.{Length, NoRoom, Refused}
 use Rattle.build.specs.Answers.{shown}
+use Rattle.build.proofs.Built.number.Reads as Built-number
+use Rattle.build.proofs.Built.place.Reads as Built-place
+use Rattle.build.proofs.build.Reads as build
 
 abbrev builtOf : Answer ℕ → Built
 builtOf (given n) = Length n
@@ -29,9 +31,22 @@ built-back (Refused BadRef p) = refl
 built-back (Refused FullNode p) = refl
 built-back (Refused TooLong p) = refl
 
--- `build`: an outcome is the answer and the buffer afterwards
-pub one-build : (recipe out : List ℕ) (a b : Built) (x y : List ℕ)
-    → shown a ≡ build recipe (length out) → x ≡ built recipe out
-    → shown b ≡ build recipe (length out) → y ≡ built recipe out
-    → _≡_ {A = Built × List ℕ} (a, x) (b, y)
-one-build recipe out a b x y e l f m = sole-pair (sole-meant shown builtOf built-back a b _ e f) (sole l m)
+-- `build`
+pub one-built : (a b : Built) (n : Answer ℕ) → shown a ≡ n → shown b ≡ n → a ≡ b
+one-built = sole-meant shown builtOf built-back
+
+-- ---- the contracts
+
+-- for each public function: what its contract fixes of the result `x` and of the parameters afterwards, `p`
+pub record Unique : Type 0 where
+  Built-number : Fixes Built-number.Learnt (λ k x p. x)
+  Built-place : Fixes Built-place.Learnt (λ k x p. x)
+  build : Fixes {S = Built × List ℕ} build.Learnt (λ k x p. (x, p .1 .0 .now))
+
+pub unique : Unique
+unique =
+    record {
+      Built-number = λ k a x y p q. sole;
+      Built-place = λ k a x y p q. sole;
+      build = λ k a x y p q l m. sole-pair (one-built x y _ (l .0) (m .0)) (sole (l .1) (m .1));
+    }

@@ -18,6 +18,7 @@ use Rattle.format.specs.Node.{Node, bytes, sizes, starts, placeOf}
 use Rattle.format.specs.Build.{records}
 use Rattle.laws.proofs.Bytes.{over-fits}
 use Rattle.laws.proofs.Shapes.{Within, tableFor}
+use Rattle.laws.proofs.Faults.{length-starts}
 use Rattle.laws.proofs.Heads.{length-records}
 use Rattle.laws.proofs.Links.{place-zero, place-below, starts-rise}
 use Rattle.laws.proofs.Good.{Good}
@@ -91,11 +92,6 @@ hops-end xs zs (n ∷ ns) s =
     let y : at out (length xs + sizes ns + 1) ≡ size (n .form) =
     behind xs (records pptt ns) b (length xs + sizes ns) (rw (length-records pptt ns)) ∙ own-length g n zs (s .0 .own) (s .0 .within) in
     rw (regroup xs zs n ns, hops-last out (length ns) (length xs), h, y) (omega arith)
-
-pub length-starts : (t : Table) (ns : List Node) → length (starts t ns) ≡ length ns
-unfolding starts
-length-starts t [] = refl
-length-starts t (n ∷ ns) = ap suc (length-starts t ns)
 
 at-place : (xs zs : List ℕ) (n : Node) (ns : List Node) (k : ℕ) (x : Bool) → length xs ≡ 36 → Good pptt ns → eqb (suc (length ns)) (suc k) ≡ x → k < suc (length ns)
     → (k < length ns → (ys : List ℕ) → hops (xs ++ (records pptt ns ++ ys)) k (length xs) ≡ placeOf (starts pptt ns) (suc k))

@@ -12,6 +12,7 @@ use Rattle.laws.proofs.Good.{Good}
 use Rattle.build.specs.declared.Latest.{Latest}
 use Rattle.marks.specs.declared.Mark.{Mark}
 use Rattle.marks.specs.declared.Marks.{Marks}
+use Rattle.marks.specs.Marks.{Every}
 use Rattle.recipe.specs.declared.Reference.{Reference}
 use Rattle.recipe.specs.declared.Reference.the-variants as names
 use Rattle.build.specs.declared.Found.{Found}
@@ -49,7 +50,7 @@ Leads bs m = (m .place ≤ limit) × (hops bs (m .nodes) 36 ≡ m .place)
 
 -- and to all three
 abbrev pub Leading : List ℕ → Marks → Type 0
-Leading bs m = Leads bs (m .parent) × Leads bs (m .cache) × Leads bs (m .back)
+Leading bs m = Every (Leads bs) m
 
 -- what was found is the place of the record that a reference names, or 0
 abbrev pub Placed : List ℕ → Reference → Found → Type 0
@@ -65,7 +66,7 @@ Reaches bs es = (i : ℕ) → i ≤ length es → hops bs i 36 ≡ placeAfter es
 abbrev pub Keeps : List ℕ → ℕ → Marks → Marks → Type 0
 Keeps bs to m m′ =
     (es : List Node) → ((to ≡ 0 → ⊥) → (to ≤ length es) × Reaches bs es) → Marked es (m .parent) → Marked es (m .cache) → Marked es (m .back)
-    → Marked es (m′ .parent) × Marked es (m′ .cache) × Marked es (m′ .back)
+    → Every (Marked es) m′
 
 -- ---- the pass
 

@@ -1,31 +1,35 @@
 // Answers calls line by line: a request on standard input, its answer on standard output (docs/CALLS.md).
-mod answer;
-mod print;
-
+ghost use mathlib.Core.Path.{_≡_};
+ghost use lib.ListN.{length, take};
+ghost use Rattle.format.specs.Bytes.{pick};
+ghost use Rattle.text.specs.Text.{laid};
+ghost use Rattle.answers.specs.Lines.{tooLong, answerTo};
 use libc::STDIN_FILENO;
 
-// Where the program stands: bytes of the line so far, whether there were more than there is room for, bytes that wait to be written.
+// Where the program stands: bytes of the line so far, and whether there were more than there is room for.
 struct Place {
     held: usize,
     long: bool,
-    waiting: usize,
 }
 
-// The start of a line.
-fn fresh(waiting: usize) -> Place {
+// The answer to the line so far.
+fn reply(p: Place, line: &[u8], given: &mut [u8], lent: &mut [u8], text: &mut [u8]) -> usize
+    ensures { λ r. ⌜ (r, now (text .exit)) ≡ laid (now (text .entry)) 0 (pick (p .long) tooLong (answerTo (length (now (given .entry))) (length (now (lent .entry))) (take (p .held) (now (line .entry))))) ⌝ }
+{
+    if p.long {
+        return answers::too_long(text);
+    }
+    answers::answer(frames::first(line, p.held), given, lent, text)
+}
+
+// The end of a line: its answer is written at once.
+fn finish(p: Place, line: &[u8], given: &mut [u8], lent: &mut [u8], text: &mut [u8]) -> Place {
+    let n = reply(p, line, given, lent, text);
+    prints::write_first(text, n);
     Place {
         held: 0,
         long: false,
-        waiting,
     }
-}
-
-// The end of a line: its answer.
-fn finish(p: Place, line: &[u8], given: &mut [u8], lent: &mut [u8], text: &mut [u8]) -> Place {
-    if p.long {
-        return fresh(print::too_long(text, p.waiting));
-    }
-    fresh(answer::answer(frames::first(line, p.held), given, lent, text, p.waiting))
 }
 
 // One byte more.
@@ -46,14 +50,9 @@ fn take(
         return Place {
             held: held + 1,
             long: p.long,
-            waiting: p.waiting,
         };
     }
-    Place {
-        held,
-        long: true,
-        waiting: p.waiting,
-    }
+    Place { held, long: true }
 }
 
 // All bytes of a chunk.
@@ -80,33 +79,29 @@ enum Turn {
     End(Place),
 }
 
-// Reads once, and writes the answers of the lines that ended.
+// Reads once, and answers the lines that ended.
 fn listen(p: Place, line: &mut [u8], given: &mut [u8], lent: &mut [u8], text: &mut [u8]) -> Turn {
     let mut chunk = io::large_buffer();
     let n = io::count(libc::read(STDIN_FILENO, &mut chunk), &chunk);
     if n == 0 {
         return Turn::End(p);
     }
-    let q = take_all(p, &chunk[..n], line, given, lent, text);
-    prints::write_first(text, q.waiting);
-    Turn::More(Place {
-        held: q.held,
-        long: q.long,
-        waiting: 0,
-    })
+    Turn::More(take_all(p, &chunk[..n], line, given, lent, text))
 }
 
 // A last line may lack its newline.
 fn last(p: Place, line: &[u8], given: &mut [u8], lent: &mut [u8], text: &mut [u8]) {
     if 0 < p.held {
-        let q = finish(p, line, given, lent, text);
-        prints::write_first(text, q.waiting);
+        finish(p, line, given, lent, text);
     }
 }
 
 // Turn by turn. Nothing says that the input ends: the turns are counted, from a number that no run uses up.
 fn serve(line: &mut [u8], given: &mut [u8], lent: &mut [u8], text: &mut [u8]) {
-    let mut p = fresh(0);
+    let mut p = Place {
+        held: 0,
+        long: false,
+    };
     let mut turns = u64::MAX;
     while 0 < turns {
         match listen(p, line, given, lent, text) {
@@ -120,10 +115,11 @@ fn serve(line: &mut [u8], given: &mut [u8], lent: &mut [u8], text: &mut [u8]) {
     }
 }
 
+// A line of text has room for the longest answer too.
 fn main() {
     let mut line = prints::line();
     let mut given = prints::room();
     let mut lent = prints::room();
-    let mut text = io::large_buffer();
+    let mut text = prints::line();
     serve(&mut line, &mut given, &mut lent, &mut text);
 }

@@ -139,7 +139,7 @@ pub fn put_u64(out: &mut [u8], at: usize, v: u64)
     }
 }
 
-// Writes numbers one behind the other, each at its width.
+// The same at any place, number by number.
 fn put_each(out: &mut [u8], at: usize, ws: &[usize], vs: &[u64])
     ensures { λ _. ⌜ now (out .exit) ≡ over (now (out .entry)) at (join (now (ws .entry)) (now (vs .entry))) ⌝ }
 {
@@ -169,8 +169,9 @@ fn total(ws: &[usize]) -> usize
     n
 }
 
-// The same. Where all of them have room, they go into a window of their own, of which the compiler knows the length and tests no bound for
-// each; where not even the first has room, nothing is done: a walk that measures is spared them.
+// Writes numbers one behind the other, each at its width. Where all of them have room, they go into a window of their own, of which the
+// compiler knows the length and tests no bound for each; where not even the first has room, nothing is done: a walk that measures is
+// spared them.
 pub fn put_all(out: &mut [u8], at: usize, ws: &[usize], vs: &[u64])
     ensures { λ _. ⌜ now (out .exit) ≡ over (now (out .entry)) at (join (now (ws .entry)) (now (vs .entry))) ⌝ }
 {

@@ -1,7 +1,7 @@
 -- A node as a recipe says it: the kind that makes it, its records, and the first of its fields that is outside its range.
 use Prim.Native.Nat.{ℕ, _+_}
 use mathlib.Core.List.{List, [], _∷_}
-use mathlib.Core.Bool.{Bool, true, false}
+use mathlib.Core.Bool.{Bool}
 use Rattle.format.specs.Bytes.{pick}
 use Rattle.format.specs.Layout.{Item, wide}
 use Rattle.format.specs.Form.{Form, processor, cache, memory, acpi, pci, rintc, domain, matrix, side, ranges}

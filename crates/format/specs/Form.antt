@@ -1,7 +1,7 @@
 -- The forms of records, with their inner counts: types, lengths, layouts, and the ranges of their fields.
 use Prim.Native.Nat.{ℕ, _+_, _*_}
 use mathlib.Core.List.{List, [], _∷_, _++_}
-use mathlib.Core.Bool.{Bool, true, false}
+use mathlib.Core.Bool.{Bool, true}
 use lib.ListN.{replicate}
 use lib.Dec.{eqb, leb, ltb}
 use Rattle.format.specs.Bytes.{pick, both, all, at, bits}

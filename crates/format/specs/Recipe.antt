@@ -8,7 +8,7 @@ use lib.Dec.{eqb, leb, ltb}
 use Rattle.format.specs.Bytes.{pick, all, firstOf, find, Answer, refused, given, andThen, orRefused, unless, at, part}
 use Rattle.format.specs.Layout.{width, fields, refsGood}
 use Rattle.format.specs.Table.{Table, tables, code, front, limit, Head, headOf}
-use Rattle.format.specs.Form.{Form, processor, cache, memory, acpi, pci, rintc, domain, matrix, side, any, ranges}
+use Rattle.format.specs.Form.{Form, processor, cache, memory, acpi, pci, rintc, domain, matrix, side, ranges}
 use Rattle.format.specs.Node.{Node, node, sizes, starts, atOrdinal}
 use Rattle.format.specs.Kind.{Kind, Processor, Resource, Cache, Memory, Acpi, Pci, Rintc, Domain, Matrix, Initiator, Target, Cell, Side, Handle, kindOf, body}
 

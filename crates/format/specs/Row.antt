@@ -1,11 +1,11 @@
 -- The layout rows: which row a record of a table matches, and which a reader knows.
 use Prim.Native.Nat.{ℕ, _-_, _/_, _%_, _^_}
 use mathlib.Core.List.{List, [], _∷_}
-use mathlib.Core.Bool.{Bool, true, false}
+use mathlib.Core.Bool.{Bool}
 use mathlib.Core.Option.{Option, none, some}
 use lib.ListN.{length}
 use lib.Dec.{eqb, leb}
-use Rattle.format.specs.Bytes.{pick, both, all, find, at, value, part}
+use Rattle.format.specs.Bytes.{pick, all, find, at, value, part}
 use Rattle.format.specs.Table.{Table, pptt, srat, hmat, revision}
 use Rattle.format.specs.Form.{Form, processor, cache, memory, acpi, pci, rintc, domain, matrix, side}
 

@@ -1,7 +1,7 @@
 -- The tables: their headers, fronts and framings.
 use Prim.Native.Nat.{ℕ, _+_}
 use mathlib.Core.List.{List, [], _∷_}
-use Rattle.format.specs.Layout.{Item, fix, width}
+use Rattle.format.specs.Layout.{Item, fix}
 
 -- the tables that are built and read
 pub data Table : Type 0 where

@@ -288,12 +288,12 @@ pub fn number(t: Table, c: &[u8], from: usize, v: usize) -> usize
     k
 }
 
-// Whether the walk from a place on comes to v, and to a record of type kind.
-pub fn starts(t: Table, c: &[u8], from: usize, v: usize, kind: u16) -> bool
-    ensures { λ r. ⌜ r ≡ named (meant t) (ahead (meant t) (now (c .entry)) from) v kind ⌝ }
+// Whether the walk from a place on comes to v, and to a record of type ty.
+pub fn starts(t: Table, c: &[u8], from: usize, v: usize, ty: u16) -> bool
+    ensures { λ r. ⌜ r ≡ named (meant t) (ahead (meant t) (now (c .entry)) from) v ty ⌝ }
 {
     if number(t, c, from, v) == 0 {
         return false;
     }
-    type_in(t, field::rest(c, v)) == kind
+    type_in(t, field::rest(c, v)) == ty
 }

@@ -31,6 +31,12 @@ front-small pptt = omega arith
 front-small srat = omega arith
 front-small hmat = omega arith
 
+-- a front has the header's bytes
+pub front-long : (t : format.Table) → 36 ≤ front t
+front-long pptt = omega arith
+front-long srat = omega arith
+front-long hmat = omega arith
+
 -- a table's number is one byte of a head
 pub code-byte : (t : format.Table) → le 1 (code t) ≡ code t ∷ []
 unfolding le

@@ -1,32 +1,23 @@
 -- The tests of a record: zeros, fixed values and length of a matrix and of a side cache as a list of tests, and the ranges of their first fields.
 use mathlib.Core.Path.{_≡_, refl, ap}
-use Prim.Native.Nat.{ℕ, zero, suc, _+_, _≤_, _<_, min}
-use mathlib.Core.List.{List, [], _∷_, _++_}
+use Prim.Native.Nat.{ℕ, _<_, min}
+use mathlib.Core.List.{List, [], _∷_}
 use mathlib.Core.Bool.{true, false}
 use native.Mathlib.Omega.{arith}
-use native.Mathlib.Nat.{add-assoc, add-zero}
-use lib.ListN.{replicate}
-use lib.Dec.{eqb, leb}
-use borrow.Author.Tests.{eq-eqb, ne-eqb, le-leb, lt-leb}
-use Rattle.format.specs.Bytes.{both, all, value, part}
-use Rattle.format.specs.Layout.{Item, fld, wide, isFixed, asIs, width, fixedOk}
+use lib.Dec.{eqb}
+use borrow.Author.Tests.{eq-eqb, ne-eqb}
+use Rattle.format.specs.Bytes.{all, value, part}
+use Rattle.format.specs.Layout.{fld, asIs, fixedOk}
 use Rattle.format.specs.Form.{Form, layout, size, ranges}
 use Rattle.format.specs.Node.{Node, nodeAt}
 use Rattle.format.specs.Row.{matrices, sides, formIn}
 use Rattle.format.specs.Field.{badField}
-use Rattle.laws.specs.Offsets.{fixedAt}
-use Rattle.laws.proofs.Tests.{both-assoc, both-right}
-use Rattle.laws.proofs.Offsets.{node-at}
+use Rattle.laws.proofs.Tests.{both-right}
+use Rattle.laws.proofs.Offsets.{fixed-list, fixed-append, node-at}
 use Rattle.laws.proofs.Fields.{fixed-now}
 use Rattle.hmat.specs.Hmat.{trimmed}
 
 -- ---- what a test of code says of the test that it stands for
-
-pub above : {x y v : ℕ} → x ≡ y → v < x → leb y v ≡ false
-above {x} {y} {v} e h = rw e at (lt-leb x v h)
-
-pub within : {x y v : ℕ} → x ≡ y → x ≤ v → leb y v ≡ true
-within {x} {y} {v} e h = rw e at (le-leb x v h)
 
 -- a length that is cut at a number m, of a number below m
 pub differs-cut : {x y n : ℕ} (s m : ℕ) → x ≡ y → n ≡ min s m → x < m → (x ≡ n → ⊥) → eqb y s ≡ false
@@ -34,19 +25,6 @@ differs-cut {x} {y} {n} s m e f l h = rw e at (ne-eqb x s (λ k. h (omega arith)
 
 pub equals-cut : {x y n : ℕ} (s m : ℕ) → x ≡ y → n ≡ min s m → x < m → x ≡ n → eqb y s ≡ true
 equals-cut {x} {y} {n} s m e f l h = rw e at (eq-eqb x s (omega arith))
-
--- ---- lists of plain fields
-
--- where every item of a list is a plain one, nothing is fixed
-fixed-list : (i : Item) → ((x : ℕ) → isFixed i x ≡ true) → (n : ℕ) (bs : List ℕ) (p : ℕ) → fixedAt (replicate n i) bs p ≡ true
-fixed-list i e zero bs p = refl
-fixed-list i e (suc n) bs p = rw (e (value (part bs p (wide i))), fixed-list i e n bs (p + wide i))
-
--- layouts one behind the other
-fixed-append : (is js : List Item) (bs : List ℕ) (p : ℕ) → fixedAt (is ++ js) bs p ≡ both (fixedAt is bs p) (fixedAt js bs (p + width is))
-unfolding width
-fixed-append [] js bs p = rw add-zero
-fixed-append (i ∷ is) js bs p = rw (fixed-append is js bs (p + wide i), both-assoc, add-assoc)
 
 -- ---- zeros, fixed values and length
 

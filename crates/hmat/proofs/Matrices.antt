@@ -45,7 +45,7 @@ module _ (g : ℕ → ℕ) where
 
 -- ---- one value or cell
 
-entry-below : (a b i t : ℕ) → a < i → b < t → a * t + b < i * t
+pub entry-below : (a b i t : ℕ) → a < i → b < t → a * t + b < i * t
 entry-below a b i t h k =
     let m : suc a * t ≤ i * t = mul-le-mul h (omega arith) in
     omega (arith, rw suc-mul at m)

@@ -19,7 +19,7 @@ use Rattle.hmat.specs.Hmat.{sideForm, sideFields, sideHead, sideFront, h
 use Rattle.laws.proofs.Over.{over-within}
 use Rattle.laws.proofs.Changes.{arities-behind, refix, set-same, same-at}
 
-fields-all : (n : ℕ) → arities (layout (side n)) ≡ 3 + n
+pub fields-all : (n : ℕ) → arities (layout (side n)) ≡ 3 + n
 unfolding layout
 fields-all n = arities-behind (take 9 (layout (side n))) 2 n
 

@@ -344,17 +344,17 @@ impl SystemLocality {
         ensures { λ r. ⌜ r ≡ min (size (matrixForm self)) (2 ^ 64 - 1) ⌝ }
     {
         let cells = Self::target_place(0, self.initiators as usize, self.targets as usize);
-        behind(cells, 2, self.cells())
+        behind(cells, Cell::LEN, self.cells())
     }
 
     // A number whose low four bytes are those of the length.
     fn length(self) -> u64
         ensures { λ r. ⌜ le 4 r ≡ le 4 (size (matrixForm self)) ⌝ }
     {
-        32
-            + 4 * self.initiators as u64
-            + 4 * self.targets as u64
-            + 2 * (self.cells() as u64 % 4294967296)
+        Self::LEN as u64
+            + Value::LEN as u64 * self.initiators as u64
+            + Value::LEN as u64 * self.targets as u64
+            + Cell::LEN as u64 * (self.cells() as u64 % 4294967296)
     }
 
     // Writes the record without values and cells.
@@ -381,8 +381,8 @@ impl SystemLocality {
     fn put_unset(self, out: &mut [u8], at: usize)
         ensures { λ _. ⌜ now (out .exit) ≡ over (now (out .entry)) at (matrixUnset self) ⌝ }
     {
-        let values = 4 * (self.initiators as usize + self.targets as usize);
-        let cells = behind(0, 2, self.cells());
+        let values = Value::LEN * (self.initiators as usize + self.targets as usize);
+        let cells = behind(0, Cell::LEN, self.cells());
         let first = behind(at, values, 1);
         // its two bytes are alike
         let unset = (Self::UNREACHABLE_DOMAIN % 256) as u8;
@@ -699,30 +699,18 @@ impl Cell {
         }
     }
 
-    // Writes kind byte and body; how many bytes that is. Byte by byte where all has room: a matrix has up to 65,025 of them.
+    // Writes kind byte and body; how many bytes that is.
     pub fn put_body(self, out: &mut [u8], at: usize) -> usize
         ensures { λ _. ⌜ now (out .exit) ≡ over (now (out .entry)) at (call format.Cell (cellFields self)) ⌝ }
         ensures { λ r. ⌜ r ≡ length (call format.Cell (cellFields self)) ⌝ }
     {
-        let len = out.len();
-        if len <= at {
-            return 1 + Self::BODY;
-        }
-        if len - at < 1 + Self::BODY {
-            let vs = [
-                Self::KIND as u64,
-                self.initiator_idx as u64,
-                self.target_idx as u64,
-                self.value as u64,
-            ];
-            field::put_all(out, at, &Self::BODY_WIDTHS, &vs);
-            return 1 + Self::BODY;
-        }
-        out[at] = Self::KIND;
-        out[at + 1] = self.initiator_idx;
-        out[at + 2] = self.target_idx;
-        out[at + 3] = (self.value % 256) as u8;
-        out[at + 4] = (self.value / 256) as u8;
+        let vs = [
+            Self::KIND as u64,
+            self.initiator_idx as u64,
+            self.target_idx as u64,
+            self.value as u64,
+        ];
+        field::put_all(out, at, &Self::BODY_WIDTHS, &vs);
         1 + Self::BODY
     }
 

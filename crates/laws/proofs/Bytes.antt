@@ -114,6 +114,11 @@ part-take [] n (suc p) k h = rw take-nil
 part-take (x ∷ xs) zero (suc p) k h = absurd (omega arith)
 part-take (x ∷ xs) (suc n) (suc p) k h = part-take xs n p k (omega arith)
 
+-- a part of the n bytes from p on is a part of the whole
+pub part-window : (xs : List ℕ) (p n i k : ℕ) → i + k ≤ n → part (take n (drop p xs)) i k ≡ part xs (p + i) k
+unfolding part
+part-window xs p n i k h = rw (part-take (drop p xs) n i k h, drop-drop i p xs)
+
 pub value-append : (xs ys : List ℕ) → value (xs ++ ys) ≡ value xs + 256 ^ length xs * value ys
 unfolding value
 value-append [] ys = omega arith

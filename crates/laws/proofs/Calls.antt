@@ -1,25 +1,25 @@
 -- The records of a good node, cut and taken one by one, give the node back: for nodes of one record, and for those with a list.
 use mathlib.Core.Path.{_≡_, refl, ap, _∙_}
-use Prim.Native.Nat.{ℕ, zero, suc, _+_, _-_, _*_, _^_, _≤_, _<_}
+use Prim.Native.Nat.{ℕ, zero, suc, _+_, _^_, _≤_, _<_}
 use mathlib.Core.List.{List, [], _∷_, _++_, append-assoc, append-nil}
-use mathlib.Core.Bool.{Bool, true, false}
-use mathlib.Core.Option.{Option, none, some}
+use mathlib.Core.Bool.{true}
+use mathlib.Core.Option.{some}
 use native.Mathlib.Omega.{arith}
 use native.Mathlib.Nat.{add-zero}
 use lib.ListN.{length, take, drop, replicate, length-append}
 use lib.Seq.{drop-at}
-use lib.Dec.{eqb, leb, ltb}
+use lib.Dec.{leb, ltb}
 use borrow.Author.Tests.{le-ltb, lt-leb, ltb-true, leb-true}
-use Rattle.format.specs.Bytes.{pick, both, all, find, at, Answer, refused, given, unless}
-use Rattle.format.specs.Layout.{fix, fld, two, to, orNone, width, layWith, lay, fieldsWith, isGood, refsGood}
+use Rattle.format.specs.Bytes.{both, at}
+use Rattle.format.specs.Layout.{fld, to, orNone, width, lay, isGood, refsGood}
 use Rattle.format.specs.Table.{Table, pptt, srat, hmat, front, limit, Head}
-use Rattle.format.specs.Form.{Form, processor, cache, memory, acpi, pci, rintc, domain, matrix, side, size, layout, ranges}
+use Rattle.format.specs.Form.{Form, processor, cache, memory, acpi, pci, rintc, domain, side, size, layout, ranges}
 use Rattle.format.specs.Node.{Node, node, Entry, sizes, starts, atOrdinal}
 use Rattle.format.specs.Kind.{Kind, Processor, Resource, Cache, Memory, Acpi, Pci, Rintc, Domain, Matrix, Initiator, Target, Cell, Side, Handle, kindNumber, kindOf, body}
-use Rattle.format.specs.Recipe.{cutAs, skip, cut, called, resource, handle, step, added, fault, since, run}
+use Rattle.format.specs.Recipe.{cutAs, cut, called, resource, handle, step, added, since, run}
 use Rattle.format.specs.Normal.{call, each}
 use Rattle.laws.proofs.Finds.{All}
-use Rattle.laws.proofs.Lays.{Fit, FitItem, both-true, length-lay, fields-lay}
+use Rattle.laws.proofs.Lays.{Fit, both-true, length-lay, fields-lay}
 use Rattle.laws.proofs.Fits.{second, fourth, fld-fit, refit}
 use Rattle.laws.proofs.Good.{GoodNode}
 use Rattle.laws.proofs.Grows.{Passed, no-fault, kindHome}

@@ -17,7 +17,7 @@ use Rattle.format.specs.Node.{Node, sizes, starts, atOrdinal}
 use Rattle.format.specs.Kind.{Kind, Processor, Resource, Cache, Memory, Acpi, Pci, Rintc, Domain, Matrix, Initiator, Target, Cell, Side, Handle, kindNumber, kinds, kindOf, body}
 use Rattle.format.specs.Recipe.{Newest, aProcessor, aMatrix, aSide, other, newestAs, newest, resource, handle, setting, step, added, fault}
 use Rattle.laws.specs.Words.{FirstOf, NoneOf, References}
-use Rattle.laws.specs.Demand1.{Belongs, joins, After, earlier, counts, Ranged, Full, Names, recordFaults, faults, OfKind}
+use Rattle.laws.specs.Demand1.{Belongs, joins, After, earlier, counts, Ranged, Full, Names, recordFaults, OfKind}
 use Rattle.laws.proofs.Finds.{never, All, found-test, found-in}
 use Rattle.laws.proofs.Words.{Tests, found-none, among-none, among-cases, among-more, tests-leb, tests-ltb, tests-true, tests-not, tests-both, tests-rules, tests-references, Mirrors, none-of, first-of}
 
@@ -263,7 +263,7 @@ tests-full Handle vs ns e = handle-full vs (newest ns) e
 
 -- ---- references
 
-length-starts : (t : Table) (ns : List Node) → length (starts t ns) ≡ length ns
+pub length-starts : (t : Table) (ns : List Node) → length (starts t ns) ≡ length ns
 unfolding starts
 length-starts t [] = refl
 length-starts t (n ∷ ns) = ap suc (length-starts t ns)

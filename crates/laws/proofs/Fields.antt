@@ -1,15 +1,15 @@
 -- A node between its two writings: its record in a table and its record in a recipe.
 use mathlib.Core.Path.{_≡_, refl, sym, ap, _∙_}
-use Prim.Native.Nat.{ℕ, zero, suc, _+_, _*_, _^_, _<_}
+use Prim.Native.Nat.{ℕ, zero, suc, _+_, _*_, _^_, _≤_, _<_}
 use mathlib.Core.List.{List, [], _∷_, _++_, map}
 use mathlib.Core.Bool.{Bool, true, false, not}
 use native.Mathlib.Omega.{arith}
 use native.Mathlib.Nat.{mul-pos, one-le-pow, zero-lt-suc}
 use lib.ListN.{length, drop}
-use lib.Dec.{eqb}
-use borrow.Author.Tests.{eq-eqb, ne-eqb, not-true, not-false}
+use lib.Dec.{eqb, leb}
+use borrow.Author.Tests.{eq-eqb, ne-eqb, le-leb, lt-leb, not-true, not-false}
 use Rattle.format.specs.Bytes.{pick, both, all, le, value, join, part}
-use Rattle.format.specs.Layout.{Item, fix, fld, two, to, orNone, wide, arity, asIs, width, layWith, fieldsWith, fixedOk}
+use Rattle.format.specs.Layout.{Item, fix, fld, two, to, orNone, wide, asIs, width, layWith, fieldsWith, fixedOk}
 use Rattle.format.specs.Form.{Form, layout, ranges}
 use Rattle.format.specs.Node.{Node, node, bytes, nodeAt}
 use Rattle.format.specs.Kind.{Kind, Processor, Resource, Cache, Memory, Acpi, Pci, Rintc, Domain, Matrix, Initiator, Target, Cell, Side, Handle, kindNumber, body}
@@ -20,9 +20,9 @@ use Rattle.laws.specs.Numbers.{numbers}
 use Rattle.laws.specs.Offsets.{fieldsAt, fixedAt}
 use Rattle.laws.proofs.Offsets.{fields-at, fixed-at}
 use Rattle.laws.proofs.Bytes.{value-parts}
-use Rattle.laws.proofs.Finds.{never}
 use Rattle.laws.proofs.Lays.{length-lay}
 use Rattle.laws.proofs.Joins.{lay-join}
+use Rattle.laws.proofs.Shapes.{Plain}
 
 -- ---- what a test of code says of the test that it stands for
 
@@ -37,6 +37,12 @@ differs {x} {y} {v} e h = rw e at (ne-eqb x v h)
 
 pub equals : {x y v : ℕ} → x ≡ y → x ≡ v → eqb y v ≡ true
 equals {x} {y} {v} e h = rw e at (eq-eqb x v h)
+
+pub above : {x y v : ℕ} → x ≡ y → v < x → leb y v ≡ false
+above {x} {y} {v} e h = rw e at (lt-leb x v h)
+
+pub within : {x y v : ℕ} → x ≡ y → x ≤ v → leb y v ≡ true
+within {x} {y} {v} e h = rw e at (le-leb x v h)
 
 -- ---- ranges
 
@@ -74,8 +80,11 @@ sound-node f bs = rw (good-fields (node f (fieldsWith asIs (layout f) bs)))
 pub fixed-now : (f : Form) (bs : List ℕ) → fixedOk (layout f) bs ≡ fixedAt (layout f) bs 0
 fixed-now f bs = fixed-at (layout f) bs 0
 
+pub fields-now : (k : Kind) (bs : List ℕ) → fieldsWith asIs (body k) bs ≡ fieldsAt asIs (body k) bs 0
+fields-now k bs = fields-at asIs (body k) bs 0
+
 pub body-at : (k : Kind) (f : Form) (bs : List ℕ) → node f (fieldsWith asIs (body k) bs) ≡ node f (fieldsAt asIs (body k) bs 0)
-body-at k f bs = rw (fields-at asIs (body k) bs 0)
+body-at k f bs = rw (fields-now k bs)
 
 -- ---- calls as numbers at their widths
 
@@ -104,36 +113,28 @@ length-call k vs = ap suc (length-lay asIs (body k) vs)
 
 -- ---- layouts without a reference
 
-abbrev pub plain : List Item → Bool
-plain [] = true
-plain (fix w v ∷ is) = plain is
-plain (fld w ∷ is) = plain is
-plain (two w k ∷ is) = plain is
-plain (to t ∷ is) = false
-plain (orNone t ∷ is) = false
-
-module _ (g : ℕ → ℕ) where
-  lay-plain : (is : List Item) (vs : List ℕ) → plain is ≡ true → layWith g is vs ≡ layWith asIs is vs
+module _ (f g : ℕ → ℕ) where
+  lay-plain : (is : List Item) (vs : List ℕ) → Plain is → layWith f is vs ≡ layWith g is vs
   unfolding layWith
-  lay-plain [] vs h = refl
-  lay-plain (fix w v ∷ is) vs h = rw (lay-plain is vs h)
-  lay-plain (fld w ∷ is) vs h = rw (lay-plain is (drop 1 vs) h)
-  lay-plain (two w k ∷ is) vs h = rw (lay-plain is (drop 2 vs) h)
-  lay-plain (to t ∷ is) vs h = never h
-  lay-plain (orNone t ∷ is) vs h = never h
+  lay-plain [] vs p = refl
+  lay-plain (fix w v ∷ is) vs p = rw (lay-plain is vs p)
+  lay-plain (fld w ∷ is) vs p = rw (lay-plain is (drop 1 vs) p)
+  lay-plain (two w k ∷ is) vs p = rw (lay-plain is (drop 2 vs) p)
+  lay-plain (to t ∷ is) vs p = absurd p
+  lay-plain (orNone t ∷ is) vs p = absurd p
 
-  pub fields-plain : (is : List Item) (bs : List ℕ) → plain is ≡ true → fieldsWith g is bs ≡ fieldsWith asIs is bs
+  pub fields-plain : (is : List Item) (bs : List ℕ) → Plain is → fieldsWith f is bs ≡ fieldsWith g is bs
   unfolding fieldsWith
-  fields-plain [] bs h = refl
-  fields-plain (fix w v ∷ is) bs h = rw (fields-plain is (drop w bs) h)
-  fields-plain (fld w ∷ is) bs h = rw (fields-plain is (drop w bs) h)
-  fields-plain (two w k ∷ is) bs h = rw (fields-plain is (drop w bs) h)
-  fields-plain (to t ∷ is) bs h = never h
-  fields-plain (orNone t ∷ is) bs h = never h
+  fields-plain [] bs p = refl
+  fields-plain (fix w v ∷ is) bs p = rw (fields-plain is (drop w bs) p)
+  fields-plain (fld w ∷ is) bs p = rw (fields-plain is (drop w bs) p)
+  fields-plain (two w k ∷ is) bs p = rw (fields-plain is (drop w bs) p)
+  fields-plain (to t ∷ is) bs p = absurd p
+  fields-plain (orNone t ∷ is) bs p = absurd p
 
-  pub bytes-plain : (n : Node) → plain (layout (n .form)) ≡ true → bytes g n ≡ bytes asIs n
+  pub bytes-plain : (n : Node) → Plain (layout (n .form)) → bytes f n ≡ bytes g n
   unfolding bytes
-  bytes-plain n h = lay-plain (layout (n .form)) (n .values) h
+  bytes-plain n p = lay-plain (layout (n .form)) (n .values) p
 
 -- ---- zeros in two parts
 

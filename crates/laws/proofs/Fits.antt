@@ -2,13 +2,13 @@
 use mathlib.Core.Path.{_≡_, refl, sym, ap}
 use Prim.Native.Nat.{ℕ, zero, suc, _+_, _^_, _≤_, _<_}
 use mathlib.Core.List.{List, [], _∷_, _++_}
-use mathlib.Core.Bool.{Bool, true, false}
+use mathlib.Core.Bool.{Bool, true}
 use native.Mathlib.Omega.{arith}
 use native.Mathlib.Nat.{one-le-pow, zero-add, suc-add}
-use lib.ListN.{length, take, drop, set, replicate, length-append, List·getD-append}
+use lib.ListN.{length, drop, set, replicate, length-append, List·getD-append}
 use lib.Seq.{getD-drop, drop-drop}
-use Rattle.format.specs.Bytes.{both, at}
-use Rattle.format.specs.Layout.{Item, fix, fld, two, to, orNone, wide, arity, arities, asIs, number, isGood, refsGood}
+use Rattle.format.specs.Bytes.{at}
+use Rattle.format.specs.Layout.{Item, fix, fld, two, to, orNone, arity, arities, asIs, number, isGood, refsGood}
 use Rattle.laws.proofs.Lays.{Fit, FitItem, Low, both-true, rest-length, item-append}
 use Rattle.laws.proofs.Shapes.{Plain}
 

@@ -10,7 +10,7 @@ use lib.ListN.{length, take, drop, replicate, length-take}
 use lib.Seq.{drop-drop}
 use lib.Dec.{eqb, leb}
 use borrow.Author.Tests.{eqb-true, leb-true, not-false}
-use Rattle.format.specs.Bytes.{pick, all, firstOf, Bytes, at, value, part}
+use Rattle.format.specs.Bytes.{pick, all, Bytes, at, value, part}
 use Rattle.format.specs.Layout.{Item, fix, wide, arities, isFixed, width, fieldsWith, fields, fixedOk, refsGood}
 use Rattle.format.specs.Table.{Table, revision}
 use Rattle.format.specs.Form.{Form, processor, cache, memory, acpi, pci, rintc, domain, matrix, side, size, typeOf, layout, ranges}

@@ -1,23 +1,22 @@
 -- Good nodes, those that a recipe can mean: a reader goes over their records one by one and finds these nodes again.
-use mathlib.Core.Path.{_≡_, refl, ap, _∙_}
-use Prim.Native.Nat.{ℕ, zero, suc, _+_, _-_, _^_, _≤_, _<_}
+use mathlib.Core.Path.{_≡_, refl, _∙_}
+use Prim.Native.Nat.{ℕ, zero, suc, _+_, _-_, _≤_, _<_}
 use mathlib.Core.List.{List, [], _∷_, _++_, append-assoc, append-nil}
-use mathlib.Core.Bool.{Bool, true, false}
-use mathlib.Core.Option.{Option, none, some}
+use mathlib.Core.Bool.{true}
+use mathlib.Core.Option.{some}
 use native.Mathlib.Omega.{arith}
 use native.Mathlib.Nat.{add-zero}
 use lib.ListN.{length, take, drop, length-append}
 use lib.Seq.{take-at, drop-at, drop-drop}
-use lib.Dec.{eqb, leb, ltb}
-use borrow.Author.Tests.{eq-eqb, le-leb}
-use Rattle.format.specs.Bytes.{pick, both, all, firstOf, Answer, refused, given, andThen, orRefused, unless, at}
-use Rattle.format.specs.Layout.{arities, asIs, layWith, lay, fieldsWith, fields, fixedOk, refsGood}
+use borrow.Author.Tests.{le-leb}
+use Rattle.format.specs.Bytes.{pick, all, Answer, given, at}
+use Rattle.format.specs.Layout.{arities, lay, fields, fixedOk, refsGood}
 use Rattle.format.specs.Table.{Table, revision, front, limit, least}
-use Rattle.format.specs.Form.{Form, size, typeOf, layout, ranges}
+use Rattle.format.specs.Form.{size, typeOf, layout, ranges}
 use Rattle.format.specs.Row.{Row, processors, caches, memories, initiators, rintcs, domains, matrices, sides, formIn, knows, known, rowOf}
-use Rattle.format.specs.Node.{Node, node, bytes, nodeAt, Entry, entry, sizes, starts, atPlace, atOrdinal, placeOf, ordinalOf}
+use Rattle.format.specs.Node.{Node, bytes, nodeAt, Entry, entry, sizes, starts, atPlace, atOrdinal, placeOf, ordinalOf}
 use Rattle.format.specs.Build.{records}
-use Rattle.format.specs.Read.{sizeIn, typeIn, framed, Frames, ended, badFrame, framedAt, frames, sound, recordFault, Seen, entryOf, push, seenAs, walk, shown, fieldsOf}
+use Rattle.format.specs.Read.{sizeIn, typeIn, framed, Frames, badFrame, framedAt, frames, sound, recordFault, Seen, entryOf, push, walk, shown, fieldsOf}
 use Rattle.format.specs.Out.{every, nodesFrom}
 use Rattle.laws.specs.Rename.{rename}
 use Rattle.laws.specs.Demand3.{rowFor}

@@ -1,25 +1,24 @@
 -- The header of a built table is the one that a reader asks for; so a built table is read out as its nodes.
-use mathlib.Core.Path.{_≡_, refl, ap, _∙_}
-use Prim.Native.Nat.{ℕ, zero, suc, _+_, _-_, _%_, _^_, _≤_, _<_}
+use mathlib.Core.Path.{_≡_, refl, ap}
+use Prim.Native.Nat.{ℕ, _+_, _%_, _^_, _≤_, _<_}
 use mathlib.Core.List.{List, [], _∷_, _++_, append-assoc}
-use mathlib.Core.Bool.{Bool, true, false, not}
-use mathlib.Core.Option.{Option, none, some}
+use mathlib.Core.Bool.{true}
+use mathlib.Core.Option.{some}
 use native.Mathlib.Omega.{arith}
-use lib.ListN.{length, take, drop, length-append, take-append-drop}
+use lib.ListN.{length, drop, length-append}
 use lib.Seq.{take-at, drop-at, drop-drop, take-all}
-use lib.Dec.{eqb, leb, ltb}
 use borrow.Author.Tests.{eq-eqb, le-leb, le-ltb}
-use Rattle.format.specs.Bytes.{pick, both, all, firstOf, find, at, le, value, part, sum, same, Answer, refused, given, andThen, orRefused, unless}
+use Rattle.format.specs.Bytes.{at, le, value, part, sum, same, given}
 use Rattle.format.specs.Layout.{layWith, lay, fixedOk}
 use Rattle.format.specs.Table.{Table, pptt, srat, hmat, sign, revision, tail, told, front, limit, Head, headOf}
-use Rattle.format.specs.Node.{Node, bytes, sizes, starts, placeOf}
-use Rattle.format.specs.Recipe.{Meaning, means}
+use Rattle.format.specs.Node.{Node, sizes}
+use Rattle.format.specs.Recipe.{means}
 use Rattle.format.specs.Build.{records, header, checkOf, summed, tableFrom}
 use Rattle.format.specs.Read.{signed, lengthIn, own, headFault, judgeHead, frames, walk, walked}
-use Rattle.format.specs.Out.{every, nodesFrom, headIn, outOf, meaningOf}
+use Rattle.format.specs.Out.{every, nodesFrom, outOf, meaningOf}
 use Rattle.laws.proofs.Bytes.{value-le, sum-append}
 use Rattle.laws.proofs.Nodes.{length-bytes}
-use Rattle.laws.proofs.Good.{Good, seenAll, walk-good, nodes-all}
+use Rattle.laws.proofs.Good.{Good, walk-good, nodes-all}
 
 -- the checksum stands once among the bytes
 pub sum-header : (h : Head) (n len c : ℕ) (rs : List ℕ) → sum (header h n len c ++ rs) ≡ c + sum (header h n len 0 ++ rs)

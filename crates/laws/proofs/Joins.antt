@@ -5,7 +5,7 @@ use mathlib.Core.List.{List, [], _∷_, _++_, append-assoc, append-nil, map}
 use native.Mathlib.Omega.{arith}
 use lib.ListN.{length, drop, replicate, length-append}
 use Rattle.format.specs.Bytes.{le, join, sum}
-use Rattle.format.specs.Layout.{Item, wide, arity, arities, numberWith, layWith}
+use Rattle.format.specs.Layout.{Item, wide, arity, arities, layWith}
 use Rattle.laws.specs.Numbers.{numbers}
 use Rattle.laws.proofs.Bytes.{length-le}
 use Rattle.laws.proofs.Lays.{rest-length, item-append}

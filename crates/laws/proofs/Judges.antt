@@ -15,7 +15,7 @@ use Rattle.format.specs.Table.{Table, pptt, srat, hmat, tables, sign, tail, fro
 use Rattle.format.specs.Form.{Form, layout, ranges}
 use Rattle.format.specs.Row.{Row, rowOf, formIn, known}
 use Rattle.format.specs.Node.{Entry, atPlace}
-use Rattle.format.specs.Read.{signed, lengthIn, own, headFault, judgeHead, typeIn, framed, sound, recordFault}
+use Rattle.format.specs.Read.{signed, lengthIn, own, headFault, judgeHead, typeIn, sound, recordFault}
 use Rattle.laws.specs.Words.{FirstOf, NoneOf, Fixed, References}
 use Rattle.laws.specs.Demand1Read.{Signed, Long, headerFaults, Known, Sound, Starts, bodyFaults, Headed, AtHeader, RowIs}
 use Rattle.laws.proofs.Finds.{never, All, found-test}

@@ -1,14 +1,13 @@
 -- The laws of layouts, each by one induction over the items: what is laid is read again, what is read is laid again,
 -- and to write or read references by g is to write or read the renamed fields.
-use mathlib.Core.Path.{_≡_, refl, sym, ap, _∙_}
-use Prim.Native.Nat.{ℕ, zero, suc, _+_, _-_, _*_, _/_, _%_, _^_, _≤_, _<_}
-use mathlib.Core.List.{List, [], _∷_, _++_, append-assoc, map}
+use mathlib.Core.Path.{_≡_, refl, sym, ap}
+use Prim.Native.Nat.{ℕ, _+_, _-_, _*_, _/_, _%_, _^_, _≤_, _<_}
+use mathlib.Core.List.{List, [], _∷_, _++_, append-assoc}
 use mathlib.Core.Bool.{Bool, true, false}
 use native.Mathlib.Nat.{add-zero, mod-eq-of-lt, mod-lt, div-eq-of-lt, mul-add-div-right, mul-add-mod-self-right, div-add-mod'}
 use native.Mathlib.Omega.{arith}
-use lib.ListN.{length, take, drop, getD, length-append, length-drop, take-append-drop}
+use lib.ListN.{length, take, drop, length-append, length-drop, take-append-drop}
 use lib.Seq.{take-at, drop-at, take-add, length-take-le}
-use lib.Dec.{eqb}
 use borrow.Author.Tests.{eq-eqb, eqb-true}
 use Rattle.format.specs.Bytes.{both, Bytes, at, le, value}
 use Rattle.format.specs.Layout.{Item, fix, fld, two, to, orNone, wide, arity, arities, numberWith, number, takenWith, asIs, isFixed, width, layWith, fieldsWith, lay, fields, fixedOk}

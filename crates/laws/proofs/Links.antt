@@ -1,13 +1,13 @@
 -- References: ordinals and places stand for each other, and a whole layout's references stay good when they are renamed.
-use mathlib.Core.Path.{_≡_, refl, sym}
-use Prim.Native.Nat.{ℕ, zero, suc, _+_, _≤_, _<_}
-use mathlib.Core.List.{List, [], _∷_, _++_, map}
+use mathlib.Core.Path.{_≡_, refl}
+use Prim.Native.Nat.{ℕ, suc, _+_, _≤_, _<_}
+use mathlib.Core.List.{List, [], _∷_, _++_}
 use mathlib.Core.Bool.{Bool, true, false}
 use native.Mathlib.Omega.{arith}
 use lib.ListN.{length, take, drop, take-append-drop}
 use lib.Dec.{eqb}
 use borrow.Author.Tests.{eq-eqb, ne-eqb, eqb-true}
-use Rattle.format.specs.Bytes.{pick, both, at}
+use Rattle.format.specs.Bytes.{pick}
 use Rattle.format.specs.Layout.{Item, fix, fld, two, to, orNone, arity, arities, number, isGood, refsGood}
 use Rattle.format.specs.Table.{Table, pptt, srat, hmat, front}
 use Rattle.format.specs.Form.{Form, processor, cache, memory, acpi, pci, rintc, domain, matrix, side, size}
@@ -108,7 +108,7 @@ size-pos domain = omega arith
 size-pos (matrix i t) = omega arith
 size-pos (side n) = omega arith
 
-front-pos : (t : Table) → 0 < front t
+pub front-pos : (t : Table) → 0 < front t
 front-pos pptt = omega arith
 front-pos srat = omega arith
 front-pos hmat = omega arith

@@ -1,14 +1,14 @@
 -- A layout is as wide as its form's size says; so a node's record is read back as the node, and a sound record is the record of what is read from it.
 use mathlib.Core.Path.{_≡_, refl, ap, _∙_}
-use Prim.Native.Nat.{ℕ, zero, suc, _+_, _*_, _≤_}
+use Prim.Native.Nat.{ℕ, zero, suc, _+_, _*_}
 use mathlib.Core.List.{List, [], _∷_, _++_}
-use mathlib.Core.Bool.{Bool, true, false}
+use mathlib.Core.Bool.{true}
 use native.Mathlib.Nat.{suc-mul}
 use native.Mathlib.Omega.{arith}
-use lib.ListN.{length, take, drop, replicate, length-append}
+use lib.ListN.{length, replicate}
 use lib.Seq.{take-all}
-use Rattle.format.specs.Bytes.{both, all, Bytes}
-use Rattle.format.specs.Layout.{Item, fix, fld, two, to, orNone, wide, width, asIs, layWith, lay, fieldsWith, fields, fixedOk}
+use Rattle.format.specs.Bytes.{all, Bytes}
+use Rattle.format.specs.Layout.{Item, fld, to, wide, width, asIs, layWith, fields, fixedOk}
 use Rattle.format.specs.Form.{Form, processor, cache, memory, acpi, pci, rintc, domain, matrix, side, size, layout, ranges}
 use Rattle.format.specs.Node.{Node, node, bytes, nodeAt}
 use Rattle.format.specs.Read.{sound}

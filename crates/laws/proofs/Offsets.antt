@@ -1,14 +1,17 @@
 -- A layout read by places is the layout read from there on, by induction over the items.
 use mathlib.Core.Path.{_≡_, refl}
-use Prim.Native.Nat.{ℕ, _+_}
-use mathlib.Core.List.{List, [], _∷_}
-use lib.ListN.{drop}
+use Prim.Native.Nat.{ℕ, zero, suc, _+_}
+use mathlib.Core.List.{List, [], _∷_, _++_}
+use mathlib.Core.Bool.{true}
+use native.Mathlib.Nat.{add-assoc, add-zero}
+use lib.ListN.{drop, replicate}
 use lib.Seq.{drop-drop}
-use Rattle.format.specs.Bytes.{part}
-use Rattle.format.specs.Layout.{Item, wide, fieldsWith, fixedOk}
+use Rattle.format.specs.Bytes.{both, value, part}
+use Rattle.format.specs.Layout.{Item, wide, isFixed, width, fieldsWith, fixedOk}
 use Rattle.format.specs.Form.{Form, layout}
 use Rattle.format.specs.Node.{node, nodeAt}
 use Rattle.laws.specs.Offsets.{fieldsAt, fixedAt}
+use Rattle.laws.proofs.Tests.{both-assoc}
 
 pub fields-at : (g : ℕ → ℕ) (is : List Item) (bs : List ℕ) (p : ℕ) → fieldsWith g is (drop p bs) ≡ fieldsAt g is bs p
 unfolding fieldsWith part
@@ -19,6 +22,17 @@ pub fixed-at : (is : List Item) (bs : List ℕ) (p : ℕ) → fixedOk is (drop p
 unfolding fixedOk part
 fixed-at [] bs p = refl
 fixed-at (i ∷ is) bs p = rw (drop-drop (wide i) p bs, fixed-at is bs (p + wide i))
+
+-- in a list of an item that is not fixed, nothing is
+pub fixed-list : (i : Item) → ((x : ℕ) → isFixed i x ≡ true) → (n : ℕ) (bs : List ℕ) (p : ℕ) → fixedAt (replicate n i) bs p ≡ true
+fixed-list i e zero bs p = refl
+fixed-list i e (suc n) bs p = rw (e (value (part bs p (wide i))), fixed-list i e n bs (p + wide i))
+
+-- layouts one behind the other
+pub fixed-append : (is js : List Item) (bs : List ℕ) (p : ℕ) → fixedAt (is ++ js) bs p ≡ both (fixedAt is bs p) (fixedAt js bs (p + width is))
+unfolding width
+fixed-append [] js bs p = rw add-zero
+fixed-append (i ∷ is) js bs p = rw (fixed-append is js bs (p + wide i), both-assoc, add-assoc)
 
 pub node-at : (g : ℕ → ℕ) (f : Form) (bs : List ℕ) → nodeAt g f bs ≡ node f (fieldsAt g (layout f) bs 0)
 unfolding nodeAt

@@ -6,7 +6,6 @@ use mathlib.Core.Logic.{_⊎_, inl, inr, ⊎-elim}
 use native.Mathlib.Omega.{arith}
 use native.Mathlib.Nat.{zero-add, suc-add}
 use lib.ListN.{length, take, drop, length-append, length-take, length-drop, take-append-drop}
-use lib.Seq.{drop-append-add, drop-append-le, take-append-le}
 use Rattle.format.specs.Bytes.{over, part, sum}
 use Rattle.laws.proofs.Bytes.{over-all}
 

@@ -1,17 +1,15 @@
 -- Demand 2 for every recipe and every table, in terms of the calls alone: from the round trips on what recipes and tables mean.
-use mathlib.Core.Path.{_≡_, refl, ap, _∙_}
-use Prim.Native.Nat.{ℕ, zero, suc, _+_, _%_, _≤_}
-use mathlib.Core.List.{List, [], _∷_, _++_}
+use mathlib.Core.Path.{_≡_, _∙_}
+use Prim.Native.Nat.{ℕ, _+_, _%_}
+use mathlib.Core.List.{List, _++_}
 use mathlib.Core.Bool.{Bool, true, false}
-use native.Mathlib.Omega.{arith}
 use lib.ListN.{length, length-append}
 use lib.Dec.{ltb}
-use Rattle.format.specs.Bytes.{pick, Bytes, sum, refused, given, andThen, ofGiven}
+use Rattle.format.specs.Bytes.{pick, Bytes, sum, refused, given}
 use Rattle.format.specs.Table.{front}
 use Rattle.format.specs.Recipe.{Meaning, meaning}
 use Rattle.format.specs.Build.{records, header, checkOf, summed, tableFrom, lengthOf, fitting, build, table}
 use Rattle.format.specs.Normal.{recipeOf, normal}
-use Rattle.format.specs.Read.{lengthIn, own}
 use Rattle.format.specs.Out.{meaningOf, readOut, recipe}
 use Rattle.laws.specs.Demand2.{Built, Rebuilt}
 use Rattle.laws.proofs.Finds.{then-given}

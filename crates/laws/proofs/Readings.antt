@@ -3,7 +3,7 @@ use mathlib.Core.Path.{_≡_, refl, sym, ap, _∙_}
 use mathlib.Core.Logic.{_↔_, _⊎_, inl, inr, ⊎-elim}
 use Prim.Native.Nat.{ℕ, zero, suc, _+_, _-_, _≤_, _<_}
 use mathlib.Core.List.{List, [], _∷_, _++_, append-assoc, append-nil}
-use mathlib.Core.Bool.{Bool, true, false, not}
+use mathlib.Core.Bool.{Bool, true, false}
 use mathlib.Core.Option.{Option, none, some}
 use native.Mathlib.Omega.{arith}
 use native.Mathlib.Nat.{add-zero, zero-add}
@@ -12,9 +12,9 @@ use lib.Seq.{drop-drop, length-take-le}
 use lib.Dec.{eqb, leb, ltb}
 use borrow.Author.Tests.{eqb-true, eqb-false, ne-eqb, ltb-true, ltb-false}
 use Rattle.format.specs.Bytes.{pick, both, Answer, refused, given, andThen, orRefused, at, part}
-use Rattle.format.specs.Table.{Table, pptt, srat, hmat, front, least}
+use Rattle.format.specs.Table.{Table, front, least}
 use Rattle.format.specs.Row.{Row, known}
-use Rattle.format.specs.Node.{Entry, entry, sizes, starts, atPlace}
+use Rattle.format.specs.Node.{Entry, entry, atPlace}
 use Rattle.format.specs.Read.{lengthIn, own, judgeHead, typeIn, sizeIn, framed, Frames, ended, badFrame, framedAt, frames, recordFault, Seen, seenAs, entryOf, push, walk, walked, accept, Reading, reading, fieldsOf, partOf, chosen, readingOf, read, readPart}
 use Rattle.laws.specs.Words.{FirstOf, NoneOf}
 use Rattle.laws.specs.Demand1Read.{headerFaults, sizeAt, bodyAt, Framed, bodyFaults, recordFaults, Passes, start, next, Headed, Accepts, AtHeader, AtRecord, NoRecord, RowIs, Answers, EarnedRead, ExactlyAccept, ExactlyRead, OneRead}
@@ -22,7 +22,7 @@ use Rattle.laws.proofs.Walks.{least-pos}
 use Rattle.laws.proofs.Finds.{All}
 use Rattle.laws.proofs.Words.{Tests, tests-leb, tests-both, tests-as, first-in}
 use Rattle.laws.proofs.Bytes.{length-part}
-use Rattle.laws.proofs.Links.{Rising, starts-rise}
+use Rattle.laws.proofs.Links.{Rising, front-pos}
 use Rattle.laws.proofs.Trips as trips
 use Rattle.laws.proofs.Good.{frames-first}
 use Rattle.laws.proofs.Parts.{all-at, seen-part, part-refused}
@@ -109,10 +109,6 @@ walk-right t rev mask es (framedAt p bs fs) ss e =
     rw (← i) ((refl, refl), walk-right t rev mask (entryOf (seenAs t rev mask p bs) ∷ es) fs us w)
 
 -- ---- the frames from a place on
-
-front-pos : (t : Table) → 0 < front t
-unfolding sizes starts
-front-pos t = let h : 0 < front t + sizes [] = starts-rise t [] in omega arith
 
 frames-bad : (t : Table) (p : ℕ) (bs : List ℕ) → 0 < length bs → framed t bs ≡ false → frames t 0 p bs ≡ badFrame p
 unfolding frames

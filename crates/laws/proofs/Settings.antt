@@ -3,28 +3,28 @@
 use mathlib.Core.Path.{_≡_, refl, ap}
 use Prim.Native.Nat.{ℕ, zero, suc, _+_, _*_, _/_, _%_, _^_, _≤_, _<_}
 use mathlib.Core.List.{List, [], _∷_, _++_, append-assoc, append-nil}
-use mathlib.Core.Option.{Option, none, some}
-use mathlib.Core.Bool.{Bool, true, false, not}
+use mathlib.Core.Option.{some}
+use mathlib.Core.Bool.{Bool, true, false}
 use native.Mathlib.Omega.{arith}
 use native.Mathlib.Nat.{mul-zero, div-lt-iff-lt-mul, mod-lt, div-add-mod'}
 use lib.ListN.{length, take, drop, set, replicate, length-append, take-append-drop, replicate-append-replicate}
 use lib.Seq.{take-at, drop-at, drop-drop, set-at}
-use lib.Dec.{eqb, ltb}
+use lib.Dec.{eqb}
 use borrow.Author.Tests.{eqb-true, lt-ltb, le-ltb}
-use Rattle.format.specs.Bytes.{pick, both, all, firstOf, find, at, part, Answer, refused, given, andThen, orRefused, unless}
-use Rattle.format.specs.Layout.{Item, fix, fld, refsGood}
-use Rattle.format.specs.Table.{Table, pptt, srat, hmat, revision, code, tables, front, limit, Head, headOf}
+use Rattle.format.specs.Bytes.{pick, at, part, given}
+use Rattle.format.specs.Layout.{Item, fld, refsGood}
+use Rattle.format.specs.Table.{Table, pptt, srat, hmat, revision, code, front, limit, headOf}
 use Rattle.format.specs.Form.{Form, processor, cache, memory, acpi, pci, rintc, domain, matrix, side, size, layout, ranges}
 use Rattle.format.specs.Node.{Node, node, sizes, starts}
-use Rattle.format.specs.Kind.{Kind, Matrix, Initiator, Target, Cell, body}
-use Rattle.format.specs.Recipe.{cut, setting, unset, step, Meaning, means, run, tableOf, headed, meaning}
-use Rattle.format.specs.Normal.{call, eachSet, settings, calls, callsOf, headCall, recipeOf}
+use Rattle.format.specs.Kind.{Matrix, Initiator, Target, Cell, body}
+use Rattle.format.specs.Recipe.{cut, setting, unset, step, means, run, tableOf, headed, meaning}
+use Rattle.format.specs.Normal.{call, eachSet, settings, calls, callsOf, recipeOf}
 use Rattle.laws.proofs.Finds.{All}
 use Rattle.laws.proofs.Lays.{Fit, fit-length}
 use Rattle.laws.proofs.Fits.{fld-fit}
 use Rattle.laws.proofs.Shapes.{tableFor}
 use Rattle.laws.proofs.Good.{GoodNode, Good}
-use Rattle.laws.proofs.Calls.{under, Leads, stay, then, lead, all-below, lead-cache, lead-memory, lead-acpi, lead-rintc, lead-domain, lead-pci, lead-processor, lead-side}
+use Rattle.laws.proofs.Calls.{Leads, stay, then, lead, all-below, lead-cache, lead-memory, lead-acpi, lead-rintc, lead-domain, lead-pci, lead-processor, lead-side}
 
 -- ---- settings of one width, from index j on
 

@@ -1,18 +1,17 @@
 -- What a reader finds in the record of each form, by computation from its layout: its type, its size, its row and its form.
-use mathlib.Core.Path.{_≡_, refl, ap}
+use mathlib.Core.Path.{_≡_, refl}
 use Prim.Native.Nat.{ℕ, zero, suc, _+_, _-_, _*_, _/_, _%_, _^_, _≤_, _<_}
 use mathlib.Core.List.{List, [], _∷_, _++_}
-use mathlib.Core.Bool.{Bool, true, false}
+use mathlib.Core.Bool.{true}
 use native.Mathlib.Omega.{arith}
 use native.Mathlib.Nat.{mul-le-mul}
-use lib.ListN.{length, take, drop, replicate, take-append-drop}
-use lib.Dec.{eqb, leb, ltb}
+use lib.ListN.{length, drop, replicate, take-append-drop}
 use borrow.Author.Tests.{eq-eqb, le-leb}
-use Rattle.format.specs.Bytes.{pick, both, all, at, le, value, part}
-use Rattle.format.specs.Layout.{Item, fix, fld, two, to, orNone, arity, arities, layWith}
-use Rattle.format.specs.Table.{Table, pptt, srat, hmat, revision, frame, least}
+use Rattle.format.specs.Bytes.{at, le, value, part}
+use Rattle.format.specs.Layout.{Item, fix, fld, two, to, orNone, arities, layWith}
+use Rattle.format.specs.Table.{Table, revision, least}
 use Rattle.format.specs.Form.{Form, processor, cache, memory, acpi, pci, rintc, domain, matrix, side, size, typeOf, layout, ranges}
-use Rattle.format.specs.Row.{Row, processors, caches, memories, initiators, rintcs, domains, matrices, sides, home, rowType, column, matches, formIn}
+use Rattle.format.specs.Row.{home, rowType, column, matches, formIn}
 use Rattle.format.specs.Read.{typeIn, sizeIn}
 use Rattle.laws.specs.Rename.{rename}
 use Rattle.laws.specs.Demand3.{rowFor}

@@ -1,7 +1,7 @@
 -- Two settings of different fields of a matrix, or of one field to one number, may change places: both are a `set` of the fields.
 use mathlib.Core.Path.{_≡_, refl}
 use Prim.Native.Nat.{ℕ}
-use mathlib.Core.List.{List, [], _∷_}
+use mathlib.Core.List.{List, _∷_}
 use mathlib.Core.Logic.{_⊎_, inl, inr}
 use lib.ListN.{set}
 use lib.Seq.{set-comm}

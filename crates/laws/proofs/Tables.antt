@@ -10,7 +10,7 @@ use lib.Seq.{take-at, drop-at, drop-drop, take-all}
 use Rattle.format.specs.Bytes.{Bytes, at, le, value, part, sum, given}
 use Rattle.format.specs.Layout.{lay, layWith}
 use Rattle.format.specs.Table.{Table, pptt, srat, hmat, sign, revision, tail, told, front, limit, Head}
-use Rattle.format.specs.Form.{Form, processor, cache, memory, acpi, pci, rintc, domain, matrix, side, size, layout}
+use Rattle.format.specs.Form.{size, layout}
 use Rattle.format.specs.Node.{Node, bytes, sizes, starts, placeOf}
 use Rattle.format.specs.Recipe.{Meaning, meaning}
 use Rattle.format.specs.Build.{records, header, checkOf, summed, tableFrom, lengthOf, build, table}
@@ -18,7 +18,7 @@ use Rattle.format.specs.Read.{lengthIn, Seen, accept, listIn, partOf, read, rea
 use Rattle.format.specs.Out.{every}
 use Rattle.laws.specs.Demand1.{Says}
 use Rattle.laws.specs.Demand2.{Lies}
-use Rattle.laws.specs.Demand3.{rowFor, answerOn, Shows, ShowsNormal}
+use Rattle.laws.specs.Demand3.{answerOn, Shows, ShowsNormal}
 use Rattle.laws.proofs.Bytes.{value-le}
 use Rattle.laws.proofs.Nodes.{length-bytes}
 use Rattle.laws.proofs.Links.{starts-rise}

@@ -1,30 +1,29 @@
 -- The round trips. What a recipe means is meant by its table and by its normal form; what a table means is meant by its recipe, and is this table's.
 use mathlib.Core.Path.{_≡_, refl, sym, ap, _∙_}
-use Prim.Native.Nat.{ℕ, zero, suc, _+_, _-_, _%_, _≤_, _<_}
-use mathlib.Core.List.{List, [], _∷_, _++_, append-assoc, append-nil}
+use Prim.Native.Nat.{ℕ, _+_, _%_, _≤_, _<_}
+use mathlib.Core.List.{List, [], _∷_, _++_, append-assoc}
 use mathlib.Core.Bool.{Bool, true, false, not}
-use mathlib.Core.Option.{Option, none, some}
+use mathlib.Core.Option.{some}
 use native.Mathlib.Omega.{arith}
 use native.Mathlib.Nat.{add-zero}
-use lib.ListN.{length, take, drop, getD, length-drop, take-append-drop}
+use lib.ListN.{length, take, drop, length-drop, take-append-drop}
 use lib.Seq.{length-take-le, drop-drop, drop-cons, take-take, getD-take}
 use lib.Dec.{eqb, leb, ltb}
-use borrow.Author.Tests.{eqb-true, leb-true, ltb-false, not-false}
-use Rattle.format.specs.Bytes.{pick, both, all, firstOf, find, Bytes, at, le, value, part, sum, same, Answer, refused, given, andThen, orRefused, unless}
-use Rattle.format.specs.Layout.{width, layWith, lay, fieldsWith, fixedOk}
-use Rattle.format.specs.Table.{Table, pptt, srat, hmat, tables, sign, revision, tail, told, front, limit, Head, headOf}
-use Rattle.format.specs.Node.{Node, sizes, starts}
+use borrow.Author.Tests.{eqb-true, leb-true, not-false}
+use Rattle.format.specs.Bytes.{pick, both, all, find, Bytes, at, le, value, part, sum, same, refused, given, andThen, orRefused, unless}
+use Rattle.format.specs.Layout.{width, lay, fieldsWith, fixedOk}
+use Rattle.format.specs.Table.{Table, pptt, srat, hmat, tables, sign, revision, tail, told, front, limit, headOf}
+use Rattle.format.specs.Node.{sizes, starts}
 use Rattle.format.specs.Recipe.{Meaning, means, meaning}
 use Rattle.format.specs.Normal.{recipeOf, normal}
 use Rattle.format.specs.Build.{records, header, checkOf, summed, tableFrom, lengthOf}
-use Rattle.format.specs.Read.{signed, lengthIn, own, headFault, judgeHead, frames, Seen, walk, walked}
+use Rattle.format.specs.Read.{signed, lengthIn, own, headFault, judgeHead, Seen, walked}
 use Rattle.format.specs.Out.{every, nodesFrom, headIn, outOf, meaningOf}
 use Rattle.laws.proofs.Bytes.{le-value, bytes-take, bytes-drop, bytes-at, bytes-part, part-take, length-part}
 use Rattle.laws.proofs.Finds.{found-test, none-first, then-given, or-given, unless-given}
 use Rattle.laws.proofs.Lays.{both-true, lay-fields}
-use Rattle.laws.proofs.Good.{Good}
 use Rattle.laws.proofs.Heads.{sum-header, length-records}
-use Rattle.laws.proofs.Builds.{Means, meaning-good, table-means}
+use Rattle.laws.proofs.Builds.{meaning-good}
 use Rattle.laws.proofs.Settings.{meaning-back}
 use Rattle.laws.proofs.Walks.{walk-found}
 

@@ -1,12 +1,12 @@
 -- Document 01's cases C1 to C12, as one statement. Identity fields and all fields not named are 0.
 use Prim.Native.Nat.{ℕ, _+_, _*_}
 use mathlib.Core.List.{List, [], _∷_, _++_}
-use mathlib.Core.Option.{Option, none, some}
+use mathlib.Core.Option.{none}
 use mathlib.Core.Path.{_≡_}
 use lib.ListN.{length, drop, replicate}
 use Rattle.format.specs.Bytes.{refused, given, at, le, part}
-use Rattle.format.specs.Table.{Table, pptt, srat, hmat, code, limit}
-use Rattle.format.specs.Kind.{Kind, Processor, Resource, Cache, Matrix, Cell}
+use Rattle.format.specs.Table.{Table, pptt, srat, hmat, code}
+use Rattle.format.specs.Kind.{Processor, Resource, Cache, Matrix, Cell}
 use Rattle.format.specs.Build.{build, table}
 use Rattle.format.specs.Normal.{call, each}
 use Rattle.format.specs.Read.{reading, read, readPart}

@@ -10,3 +10,4 @@ pub mod Demand3
 pub mod Demand1Read
 pub mod Buffers
 pub mod Versions
+pub mod Unique

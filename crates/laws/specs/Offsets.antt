@@ -1,7 +1,7 @@
 -- A layout read by places: of a row it computes to a list of fields, each at its offset.
 use Prim.Native.Nat.{ℕ, _+_}
 use mathlib.Core.List.{List, [], _∷_, _++_}
-use mathlib.Core.Bool.{Bool, true, false}
+use mathlib.Core.Bool.{Bool, true}
 use Rattle.format.specs.Bytes.{both, value, part}
 use Rattle.format.specs.Layout.{Item, wide, takenWith, isFixed}
 

@@ -1,4 +1,4 @@
-// Prints the records of each table that its arguments name, under the name: stored tables against stored lines.
+// Prints the lines of each table that its arguments name, under the name: stored tables against stored lines.
 use libc::STDOUT_FILENO;
 
 fn show(path: &[u8]) {
@@ -13,7 +13,9 @@ fn show(path: &[u8]) {
     let mut space = io::large_buffer();
     let n = io::read_full(fd, &mut space);
     libc::close(fd);
-    lists::list(&space[..n]);
+    let mut text = prints::room();
+    let m = lists::lines(&space[..n], &mut text);
+    prints::write_first(&text, m);
 }
 
 fn argument(i: usize) {

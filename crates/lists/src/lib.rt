@@ -1,6 +1,13 @@
-// The lines that are printed of a table: it is judged once, and then its records are shown one after the other.
-use frames::Spelled;
-use libc::STDOUT_FILENO;
+// The lines of a table: it is judged once, and then its records are shown one after the other.
+ghost use mathlib.Core.Path.{_≡_};
+ghost use Rattle.format.specs.Read.{accept};
+ghost use Rattle.format.specs.Out.{every};
+ghost use Rattle.format.specs.Listing.{whether, recordLines, linesOf};
+ghost use Rattle.read.specs.Places.{firstPlace, seenFrom};
+ghost use Rattle.read.specs.Answers.{rowIn};
+ghost use Rattle.text.specs.Text.{laid};
+ghost use Rattle.lists.specs.Lines.{firstLine, recordLine};
+use header::TableHeader;
 use read::Accepted;
 use read::Node;
 use read::Shown;
@@ -8,73 +15,66 @@ use read::Shown;
 // All rows are known.
 const EVERY: u32 = 0xffff_ffff;
 
-fn number(n: u64) {
-    io::write_all(STDOUT_FILENO, b" ");
-    io::print_decimal(STDOUT_FILENO, n);
-}
-
-fn signature(table: &[u8]) {
-    if let Spelled::Table(t) = frames::signed(table) {
-        let name = t.signature();
-        io::write_all(STDOUT_FILENO, &name);
-    }
-}
-
-fn known(node: Node) -> bool {
+// The end of a record's line: whether its row is known.
+fn whether(out: &mut [u8], n: usize, node: Node) -> usize
+    ensures { λ r. ⌜ (r, now (out .exit)) ≡ laid (now (out .entry)) n (whether (rowIn node)) ⌝ }
+{
     if let Node::Unknown = node {
-        false
-    } else {
-        true
+        return text::bytes(out, n, b" unknown\n");
     }
+    text::bytes(out, n, b" known\n")
 }
 
-// Place, type and length, and whether the row is known.
-fn record(s: Shown) {
-    io::print_decimal(STDOUT_FILENO, s.place as u64);
-    number(s.kind as u64);
-    number(s.length as u64);
+// A record's line: place, type and length, and whether the row is known.
+fn record_line(out: &mut [u8], n: usize, s: Shown) -> usize
+    ensures { λ r. ⌜ (r, now (out .exit)) ≡ laid (now (out .entry)) n (recordLine (s .place) (s .ty) (s .length) (rowIn (s .node))) ⌝ }
+{
+    let mut m = text::decimal(out, n, s.place as u64);
+    m = text::spaced(out, m, s.ty as u64);
+    m = text::spaced(out, m, s.length as u64);
     let node = s.node;
-    if known(node) {
-        io::write_all(STDOUT_FILENO, b" known\n");
-    } else {
-        io::write_all(STDOUT_FILENO, b" unknown\n");
-    }
+    whether(out, m, node)
 }
 
-// The records of an accepted table, of which there are so many.
-fn records(table: &[u8], count: usize) {
+// The lines of count records, from the first one on.
+fn record_lines(table: &[u8], count: usize, out: &mut [u8], n: usize) -> usize
+    ensures { λ r. ⌜ (r, now (out .exit)) ≡ laid (now (out .entry)) n (recordLines (seenFrom (now (table .entry)) every count (firstPlace (now (table .entry))))) ⌝ }
+{
+    let mut m = text::bytes(out, n, b"");
     let mut place = read::first_place(table);
     let mut left = count;
     while 0 < left {
-        if table.len() < place {
-            return;
-        }
         let s = read::record_at(table, EVERY, place);
-        record(s);
-        if table.len() - place < s.length {
-            return;
-        }
+        m = record_line(out, m, s);
         place += s.length;
         left -= 1;
     }
+    m
 }
 
-// Signature, revision, length and number of records, and a line for each record; or the refusal.
-pub fn list(table: &[u8]) {
+// The first line of a table: signature, revision, length and number of records.
+fn first_line(table: &[u8], count: usize, out: &mut [u8]) -> usize
+    ensures { λ r. ⌜ (r, now (out .exit)) ≡ laid (now (out .entry)) 0 (firstLine (now (table .entry)) count) ⌝ }
+{
+    let mut m = text::bytes(out, 0, frames::first(table, 4));
+    m = text::spaced(out, m, TableHeader::revision_in(table) as u64);
+    m = text::spaced(out, m, field::get_u32(table, 4) as u64);
+    m = text::spaced(out, m, count as u64);
+    text::byte(out, m, b'\n')
+}
+
+// The lines of a table, at the front of out: the first one and one for each record, or the refusal. How far they reach.
+pub fn lines(table: &[u8], out: &mut [u8]) -> usize
+    ensures { λ r. ⌜ (r, now (out .exit)) ≡ laid (now (out .entry)) 0 (linesOf (now (table .entry)) (accept (now (table .entry)) every)) ⌝ }
+{
     match read::accept(table, EVERY) {
         Accepted::Records(count) => {
-            signature(table);
-            number(field::get_u8(table, 8) as u64);
-            number(frames::own(table).len() as u64);
-            number(count as u64);
-            io::write_all(STDOUT_FILENO, b"\n");
-            records(table, count);
+            let m = first_line(table, count, out);
+            record_lines(table, count, out, m)
         }
         Accepted::Refused(r) => {
-            io::write_all(STDOUT_FILENO, b"refused");
-            number(r.number() as u64);
-            number(r.place() as u64);
-            io::write_all(STDOUT_FILENO, b"\n");
+            let m = text::refused(out, 0, r.number() as u64, r.place() as u64);
+            text::byte(out, m, b'\n')
         }
     }
 }

@@ -1,6 +1,8 @@
-// Prints the records of the table on standard input.
+// Prints the lines of the table on standard input.
 fn main() {
     let mut space = io::large_buffer();
     let n = io::read_full(0, &mut space);
-    lists::list(&space[..n]);
+    let mut text = prints::room();
+    let m = lists::lines(&space[..n], &mut text);
+    prints::write_first(&text, m);
 }

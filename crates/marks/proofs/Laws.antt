@@ -8,11 +8,7 @@ use borrow.Author.Tests.{ltb-false}
 use Rattle.format.specs.Bytes.{pick}
 use Rattle.marks.specs.declared.Mark.{Mark}
 use Rattle.marks.specs.declared.Marks.{Marks}
-use Rattle.marks.specs.Marks.{upTo, towardCache, withParent, withCache}
-
--- what holds of every mark
-abbrev pub Every : (Mark → Type 0) → Marks → Type 0
-Every P m = P (m .parent) × P (m .cache) × P (m .back)
+use Rattle.marks.specs.Marks.{Every, upTo, towardCache, withParent, withCache}
 
 -- ---- no start is past the node
 

@@ -9,6 +9,10 @@ use Rattle.marks.specs.declared.Marks.{Marks}
 abbrev pub all : Mark → Marks
 all m = record { parent = m; cache = m; back = m }
 
+-- what holds of each of the three
+abbrev pub Every : (Mark → Type 0) → Marks → Type 0
+Every P m = P (m .parent) × P (m .cache) × P (m .back)
+
 -- the mark, unless it is past node i: then the first
 abbrev pub upTo : Mark → ℕ → Mark → Mark
 upTo first i m = pick (ltb i (m .nodes)) first m

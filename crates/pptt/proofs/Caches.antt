@@ -9,6 +9,7 @@ use Rattle.format.specs.Node.{Node, nodeAt}
 use Rattle.format.specs.Kind.{Cache, body}
 use Rattle.format.specs.Read.{shown}
 use Rattle.laws.proofs.Offsets.{fields-at}
+use Rattle.laws.proofs.Fields.{fields-now}
 use Rattle.pptt.specs.declared.CacheNode.{CacheNode}
 use Rattle.pptt.specs.Cache.{cacheShown, cacheNode}
 
@@ -19,7 +20,7 @@ next-record bs = rw (fields-at asIs (layout cache) bs 0)
 
 pub next-body : (bs : List ℕ) → at (fields (body Cache) bs) 1 ≡ value (part bs 1 4)
 unfolding body
-next-body bs = rw (fields-at asIs (body Cache) bs 0)
+next-body bs = rw (fields-now Cache bs)
 
 -- of the node of some bytes the format shows these values
 pub cache-shown : (n : CacheNode) (bs : List ℕ) → cacheNode n ≡ nodeAt asIs cache bs → cacheShown n ≡ shown cache (fields (layout cache) bs)

@@ -16,15 +16,15 @@ use Rattle.format.specs.Form.{processor, size, layout}
 use Rattle.format.specs.Node.{node, bytes}
 use Rattle.format.specs.Kind.{Processor, body}
 use Rattle.format.specs.Read.{shown}
-use Rattle.laws.specs.Offsets.{fieldsAt, fixedAt}
+use Rattle.laws.specs.Offsets.{fieldsAt}
 use Rattle.laws.proofs.Bytes.{length-le, length-over, over-over, over-past}
 use Rattle.laws.proofs.Tests.{both-right}
 use Rattle.laws.proofs.Lays.{both-true, length-lay}
 use Rattle.laws.proofs.Over.{over-within-first}
 use Rattle.laws.proofs.Joins.{lay-append, join-more}
 use Rattle.laws.proofs.Nodes.{length-bytes}
-use Rattle.laws.proofs.Offsets.{fields-at}
-use Rattle.laws.proofs.Fields.{fixed-now}
+use Rattle.laws.proofs.Offsets.{fields-at, fixed-list}
+use Rattle.laws.proofs.Fields.{fixed-now, fields-now}
 use Rattle.pptt.specs.declared.CacheHandle.{CacheHandle}
 use Rattle.pptt.specs.declared.ProcessorNode.{ProcessorNode}
 use Rattle.pptt.specs.Processor.{processorShown, processorNode, fixedPart, grown, processorIn, resourceIn}
@@ -87,22 +87,18 @@ parent-record bs = rw (fields-at asIs (layout (processor 0)) bs 0)
 
 pub parent-body : (bs : List ℕ) → at (fields (body Processor) bs) 1 ≡ value (part bs 4 4)
 unfolding body
-parent-body bs = rw (fields-at asIs (body Processor) bs 0)
+parent-body bs = rw (fields-now Processor bs)
 
 -- the values of a node, as the format shows them
 pub processor-shown : (p : ProcessorNode) (ws : List ℕ) → processorShown p ≡ shown (processor (p .resources)) (processorNode p ws .values)
 unfolding shown
 processor-shown p ws = refl
 
-fixed-resources : (n : ℕ) (bs : List ℕ) (p : ℕ) → fixedAt (replicate n (to 1)) bs p ≡ true
-fixed-resources zero bs p = refl
-fixed-resources (suc n) bs p = fixed-resources n bs (p + 4)
-
 -- type, length, zeros and the number of resources
 pub processor-fixed : (n : ℕ) (bs : List ℕ)
     → fixedOk (layout (processor n)) bs ≡ all (eqb (value (part bs 0 1)) 0 ∷ eqb (value (part bs 1 1)) (size (processor n)) ∷ eqb (value (part bs 2 2)) 0 ∷ eqb (value (part bs 16 4)) n ∷ [])
 unfolding layout
-processor-fixed n bs = rw (fixed-now, fixed-resources, both-right)
+processor-fixed n bs = rw (fixed-now, fixed-list (to 1) (λ x. refl), both-right)
 
 fourth : (a b c d : Bool) → all (a ∷ b ∷ c ∷ d ∷ []) ≡ true → d ≡ true
 fourth a b c d h = both-true c d (both-true b (both c d) (both-true a (both b (both c d)) h .1) .1) .1

@@ -71,13 +71,16 @@ impl ProcessorNode {
     pub const MAX_RESOURCES: u8 = 58;
 
     // with as many as it takes
-    const LEN_MOST: usize = 252;
+    const LEN_MOST: usize = Self::LEN + Resource::LEN * Self::MAX_RESOURCES as usize;
 
     // Where the parent stands in a body.
     const PARENT_AT: usize = 4;
 
     // Where it stands in a record.
     const PARENT_OFFSET: usize = 8;
+
+    // Where the number of resources stands in a record.
+    const COUNT_OFFSET: usize = 16;
 
     // Kind, flags, parent, id.
     const BODY_WIDTHS: [usize; 4] = [1, 4, 4, 4];
@@ -188,7 +191,7 @@ impl ProcessorNode {
         if field::get_u16(row, 2) != 0 {
             return false;
         }
-        field::get_u32(row, 16) as usize == n
+        field::get_u32(row, Self::COUNT_OFFSET) as usize == n
     }
 
     // The parent in a body.
@@ -261,7 +264,7 @@ impl ProcessorNode {
         let count = n as u64 + 1;
         let len = Self::LEN as u64 + Resource::LEN as u64 * count;
         field::put_all(out, at + 1, &[1], &[len]);
-        field::put_all(out, at + 16, &[4], &[count]);
+        field::put_all(out, at + Self::COUNT_OFFSET, &[4], &[count]);
         Self::put_resource(out, at, n, c);
     }
 
@@ -274,7 +277,7 @@ impl ProcessorNode {
             flags: field::get_u32(r, 4),
             parent: Self::parent_of(r),
             acpi_processor_id: field::get_u32(r, 12),
-            resources: field::get_u32(r, 16),
+            resources: field::get_u32(r, Self::COUNT_OFFSET),
         }
     }
 

@@ -4,3 +4,4 @@ pub mod Listing
 pub mod Fields
 pub mod Unique
 pub mod Marks
+pub mod Once

@@ -37,7 +37,7 @@ unfolding layout
 plain-handle true = tt
 plain-handle false = tt
 
-plain-row : (r : Row) (bs : List ℕ) → Bare r → Plain (layout (formIn r bs))
+pub plain-row : (r : Row) (bs : List ℕ) → Bare r → Plain (layout (formIn r bs))
 unfolding layout formIn
 plain-row processors bs b = absurd b
 plain-row caches bs b = absurd b

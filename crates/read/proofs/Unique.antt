@@ -7,7 +7,8 @@ use lib.Dec.{eqb}
 use Rattle.format.specs.Bytes.{pick, Answer, refused, given, at}
 use Rattle.format.specs.Row.{Row, processors, caches, memories, initiators, rintcs, domains, matrices, sides}
 use Rattle.format.specs.Read.{Reading, reading}
-use Rattle.laws.proofs.Sole.{sole-meant}
+use Rattle.laws.specs.Unique.{Fixes}
+use Rattle.laws.proofs.Sole.{sole, sole-meant}
 use Rattle.srat.specs.declared.Handle.{Handle}
 use Rattle.srat.specs.declared.Handle.the-variants.{Acpi, Pci}
 use Rattle.frames.proofs.Unique.{refusalOf, refusal-back}
@@ -19,6 +20,12 @@ use Rattle.read.specs.declared.Accepted.the-variants as accepted
 use Rattle.read.specs.declared.Reply.{Reply}
 use Rattle.read.specs.declared.Reply.the-variants as reply
 use Rattle.read.specs.Answers.{rowIn, fieldsIn, shownAs, acceptedAs, shown}
+use Rattle.read.proofs.accept.Reads as accept
+use Rattle.read.proofs.first_place.Reads as first-place
+use Rattle.read.proofs.record_at.Reads as record-at
+use Rattle.read.proofs.part_at.Reads as part-at
+use Rattle.read.proofs.read.Reads as read
+use Rattle.read.proofs.part.Reads as part
 
 -- ---- records
 
@@ -55,10 +62,10 @@ node-back (node.Side n) = refl
 node-back node.Unknown = refl
 
 abbrev recordOf : Reading → Shown
-recordOf (reading count kind place length row fields) = record { kind = kind; place = place; length = length; node = nodeOf row fields }
+recordOf (reading count ty place length row fields) = record { ty = ty; place = place; length = length; node = nodeOf row fields }
 
 record-back : (count : ℕ) (s : Shown) → recordOf (shownAs count s) ≡ s
-record-back count s = ap (λ (n : Node). record { kind = s .kind; place = s .place; length = s .length; node = n }) (node-back (s .node))
+record-back count s = ap (λ (n : Node). record { ty = s .ty; place = s .place; length = s .length; node = n }) (node-back (s .node))
 
 -- ---- answers
 
@@ -71,7 +78,7 @@ accepted-back (accepted.Records n) = refl
 accepted-back (accepted.Refused r) = ap accepted.Refused (refusal-back r)
 
 abbrev countOf : Reading → ℕ
-countOf (reading count kind place length row fields) = count
+countOf (reading count ty place length row fields) = count
 
 abbrev replyOf : Answer Reading → Reply
 replyOf (refused k p) = reply.Refused (refusalOf k p)
@@ -82,13 +89,35 @@ reply-back (reply.Record count s) = ap (reply.Record count) (record-back count s
 reply-back (reply.Refused r) = ap reply.Refused (refusal-back r)
 
 -- `record_at`
-pub one-record : (a b : Shown) (r : ℕ → Reading) → ((count : ℕ) → shownAs count a ≡ r count) → ((count : ℕ) → shownAs count b ≡ r count) → a ≡ b
+one-record : (a b : Shown) (r : ℕ → Reading) → ((count : ℕ) → shownAs count a ≡ r count) → ((count : ℕ) → shownAs count b ≡ r count) → a ≡ b
 one-record a b r e f = sole-meant (shownAs 0) recordOf (record-back 0) a b (r 0) (e 0) (f 0)
 
 -- `accept`
-pub one-judgement : (a b : Accepted) (n : Answer ℕ) → acceptedAs a ≡ n → acceptedAs b ≡ n → a ≡ b
+one-judgement : (a b : Accepted) (n : Answer ℕ) → acceptedAs a ≡ n → acceptedAs b ≡ n → a ≡ b
 one-judgement = sole-meant acceptedAs acceptedOf accepted-back
 
 -- `read`
-pub one-reply : (a b : Reply) (r : Answer Reading) → shown a ≡ r → shown b ≡ r → a ≡ b
+one-reply : (a b : Reply) (r : Answer Reading) → shown a ≡ r → shown b ≡ r → a ≡ b
 one-reply = sole-meant shown replyOf reply-back
+
+-- ---- the contracts
+
+-- for each public function: what its contract fixes of the result `x` and of the parameters afterwards, `p`
+pub record Unique : Type 0 where
+  accept : Fixes accept.Learnt (λ k x p. x)
+  first-place : Fixes first-place.Learnt (λ k x p. x)
+  record-at : Fixes record-at.Learnt (λ k x p. x)
+  part-at : Fixes part-at.Learnt (λ k x p. x .now)
+  read : Fixes read.Learnt (λ k x p. x)
+  part : Fixes part.Learnt (λ k x p. x .now)
+
+pub unique : Unique
+unique =
+    record {
+      accept = λ k a x y p q. one-judgement x y _;
+      first-place = λ k a x y p q. sole;
+      record-at = λ k a x y p q. one-record x y _;
+      part-at = λ k a x y p q. sole;
+      read = λ k a x y p q. one-reply x y _;
+      part = λ k a x y p q. sole;
+    }

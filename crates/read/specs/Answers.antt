@@ -46,7 +46,7 @@ fieldsIn node.Unknown = []
 
 -- what is answered of a record, of a table of count records
 abbrev pub shownAs : ℕ → Shown → Reading
-shownAs count s = reading count (s .kind) (s .place) (s .length) (rowIn (s .node)) (fieldsIn (s .node))
+shownAs count s = reading count (s .ty) (s .place) (s .length) (rowIn (s .node)) (fieldsIn (s .node))
 
 -- the next place, or the refusal
 abbrev pub stepAs : Step → Answer ℕ

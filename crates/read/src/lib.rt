@@ -18,6 +18,7 @@ use frames::Judged;
 use frames::Refusal;
 use frames::Spelled;
 use header::Table;
+use header::TableHeader;
 use hmat::MemoryProximityDomain;
 use hmat::MemorySideCache;
 use hmat::SystemLocality;
@@ -59,7 +60,7 @@ fn mark(t: Table, c: &[u8], marks: &mut [usize], p: usize)
 // A place from which a walk to v comes to what it comes to from the front.
 fn near(t: Table, c: &[u8], marks: &[usize], v: usize) -> usize
     requires { ⌜ Marked (meant t) (now c) (now marks) ⌝ }
-    ensures { λ r. ⌜ ((kind : ℕ) → named (meant t) (framesOf (meant t) (now (c .entry))) v kind ≡ named (meant t) (ahead (meant t) (now (c .entry)) r) v kind) ⌝ }
+    ensures { λ r. ⌜ ((ty : ℕ) → named (meant t) (framesOf (meant t) (now (c .entry))) v ty ≡ named (meant t) (ahead (meant t) (now (c .entry)) r) v ty) ⌝ }
 {
     let i = part_of(c.len(), v);
     if marks.len() <= i {
@@ -72,15 +73,15 @@ fn near(t: Table, c: &[u8], marks: &[usize], v: usize) -> usize
     m
 }
 
-// Whether v is the start of a record of type kind before the one at own: being below own is not enough.
-fn refers(t: Table, c: &[u8], marks: &[usize], own: usize, v: usize, kind: u16) -> bool
+// Whether v is the start of a record of type ty before the one at own: being below own is not enough.
+fn refers(t: Table, c: &[u8], marks: &[usize], own: usize, v: usize, ty: u16) -> bool
     requires { ⌜ Marked (meant t) (now c) (now marks) ⌝ }
-    ensures { λ r. ⌜ r ≡ refers (meant t) (now (c .entry)) own v kind ⌝ }
+    ensures { λ r. ⌜ r ≡ refers (meant t) (now (c .entry)) own v ty ⌝ }
 {
     if own <= v {
         return false;
     }
-    frames::starts(t, c, near(t, c, marks, v), v, kind)
+    frames::starts(t, c, near(t, c, marks, v), v, ty)
 }
 
 // Whether a handle is none, or names a processor before the record at own.
@@ -228,7 +229,7 @@ pub fn accept(table: &[u8], mask: u32) -> Accepted
     ensures { λ r. ⌜ acceptedAs r ≡ counted (format.accept (now (table .entry)) mask) ⌝ }
 {
     match frames::judge_head(table) {
-        Judged::Table(t) => scan(t, frames::own(table), field::get_u8(table, 8), mask),
+        Judged::Table(t) => scan(t, frames::own(table), TableHeader::revision_in(table), mask),
         Judged::Refused(r) => Accepted::Refused(r),
     }
 }
@@ -250,7 +251,7 @@ pub enum Node {
 
 // A record: its type, place and length, and its row and fields as a node.
 pub struct Shown {
-    pub kind: u16,
+    pub ty: u16,
     pub place: usize,
     pub length: usize,
     pub node: Node,
@@ -321,7 +322,7 @@ fn show(t: Table, revision: u8, mask: u32, place: usize, body: &[u8]) -> Shown
 {
     let row = rows::row_of(t, revision, body);
     Shown {
-        kind: frames::type_in(t, body),
+        ty: frames::type_in(t, body),
         place,
         length: body.len(),
         node: node_in(rows::known(row, mask), body),
@@ -334,9 +335,9 @@ pub fn record_at(table: &[u8], mask: u32, place: usize) -> Shown
 {
     let body = body_at(table, place);
     match frames::signed(table) {
-        Spelled::Table(t) => show(t, field::get_u8(table, 8), mask, place, body),
+        Spelled::Table(t) => show(t, TableHeader::revision_in(table), mask, place, body),
         Spelled::Other => Shown {
-            kind: 0,
+            ty: 0,
             place,
             length: body.len(),
             node: Node::Unknown,
@@ -351,7 +352,7 @@ pub fn part_at(table: &[u8], mask: u32, place: usize) -> &[u8]
     let body = body_at(table, place);
     match frames::signed(table) {
         Spelled::Table(t) => {
-            let row = rows::row_of(t, field::get_u8(table, 8), body);
+            let row = rows::row_of(t, TableHeader::revision_in(table), body);
             rows::part(rows::known(row, mask), body)
         }
         Spelled::Other => body,

@@ -9,7 +9,7 @@ use lib.ListN.{length, replicate, length-append}
 use lib.Dec.{eqb}
 use Rattle.format.specs.Bytes.{pick, value, part, le, over}
 use Rattle.format.specs.Layout.{Item, to, wide, takenWith, width, layWith, lay}
-use Rattle.format.specs.Kind.{Kind, Processor, Resource, Cache, Initiator, Cell, body}
+use Rattle.format.specs.Kind.{Kind, Initiator, Cell, body}
 use Rattle.format.specs.Normal.{call, each, eachSet}
 use Rattle.laws.specs.Offsets.{fieldsAt}
 use Rattle.laws.proofs.Bytes.{le-mod, over-over, over-none, over-past, length-over}
@@ -57,8 +57,8 @@ put-laid {a} {b} {xs} {ys} {p} {r} w l e = record { bytes = w ∙ ap (over a p) 
 low-byte : (v : ℕ) → le 1 (v % 256) ≡ le 1 v
 low-byte v = le-mod 1 v
 
-low-word : (v : ℕ) → le 4 (v % 4294967296) ≡ le 4 v
-low-word v = le-mod 4 v
+pub low-word : (x v : ℕ) → x ≡ v % 4294967296 → le 4 x ≡ le 4 v
+low-word x v e = ap (le 4) e ∙ le-mod 4 v
 
 pub low-setting : (kind j v : ℕ) → kind ∷ lay (body Initiator) (j % 256 ∷ v ∷ []) ≡ setting kind j v
 unfolding layWith body
@@ -67,18 +67,6 @@ low-setting kind j v = rw (low-byte j)
 pub low-cell : (i j v : ℕ) → call Cell (i % 256 ∷ j % 256 ∷ v ∷ []) ≡ call Cell (i ∷ j ∷ v ∷ [])
 unfolding layWith body
 low-cell i j v = rw (low-byte i, low-byte j)
-
-pub low-resource : (x v : ℕ) → x ≡ v % 4294967296 → call Resource (x ∷ []) ≡ call Resource (v ∷ [])
-unfolding layWith body
-low-resource x v e = rw (e, low-word v)
-
-pub low-processor : (x v a b : ℕ) → x ≡ v % 4294967296 → call Processor (a ∷ x ∷ b ∷ []) ≡ call Processor (a ∷ v ∷ b ∷ [])
-unfolding layWith body
-low-processor x v a b e = rw (e, low-word v)
-
-pub low-cache : (x v a : ℕ) (bs : List ℕ) → x ≡ v % 4294967296 → call Cache (a ∷ x ∷ bs) ≡ call Cache (a ∷ v ∷ bs)
-unfolding layWith body
-low-cache x v a bs e = rw (e, low-word v)
 
 -- ---- lists of a layout
 

@@ -7,17 +7,12 @@ use mathlib.Core.Logic.{⊎-elim}
 use native.Mathlib.Omega.{arith}
 use lib.ListN.{length, drop}
 use borrow.Author.Tests.{ne-eqb, lt-ltb, le-ltb}
-use Rattle.format.specs.Table.{Table, pptt, srat, hmat, front}
+use Rattle.format.specs.Table.{Table, front}
 use Rattle.format.specs.Node.{Entry, ordinalOf}
 use Rattle.format.specs.Read.{framed}
 use Rattle.frames.specs.Frames.{ahead, framesOf, numbered}
 use Rattle.frames.proofs.Places.{framed-then, next, numbered-past, numbered-next, lt-or-le}
 use Rattle.readout.specs.Places.{ordinalAt}
-
-pub some-front : (t : Table) → 36 ≤ front t
-some-front pptt = omega arith
-some-front srat = omega arith
-some-front hmat = omega arith
 
 module _ (t : Table) (c : List ℕ) where
   -- the walk has come to p past these entries: what starts before p is among them, what starts from p on is ahead

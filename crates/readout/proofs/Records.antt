@@ -10,7 +10,7 @@ use lib.Dec.{eqb}
 use lib.Seq.{take-at, drop-at, drop-drop}
 use lib.ListN.{length, length-append, take, drop, replicate, replicate-append-replicate}
 use Rattle.format.specs.Bytes.{pick, at, value, part, over}
-use Rattle.format.specs.Layout.{Item, fld, to, asIs, width, fieldsWith}
+use Rattle.format.specs.Layout.{Item, fld, to, asIs, width, layWith, fieldsWith}
 use Rattle.format.specs.Form.{Form, processor, cache, memory, acpi, pci, rintc, domain, matrix, side, layout}
 use Rattle.format.specs.Row.{initiators, matrices, sides, formIn}
 use Rattle.format.specs.Kind.{Processor, Resource, Cache, Memory, Acpi, Pci, Rintc, Domain, Matrix, Cell, Side, Handle, body}
@@ -20,7 +20,8 @@ use Rattle.format.specs.Node.{Node, node, nodeAt}
 use Rattle.format.specs.Read.{shown}
 use Rattle.format.specs.Field.{callsOfNode}
 use Rattle.laws.proofs.Finds.{never}
-use Rattle.laws.proofs.Fields.{length-call, plain, fields-plain}
+use Rattle.laws.proofs.Shapes.{Plain, plain-fld}
+use Rattle.laws.proofs.Fields.{length-call, fields-plain}
 use Rattle.laws.proofs.Offsets.{fields-at, node-at}
 use Rattle.pptt.specs.declared.ProcessorHandle.{ProcessorHandle}
 use Rattle.pptt.specs.declared.ProcessorNode.{ProcessorNode}
@@ -33,7 +34,7 @@ use Rattle.hmat.specs.declared.MemorySideCache.{MemorySideCache}
 use Rattle.hmat.specs.Hmat.{trimmed, matrixForm, matrixFields, matrixCall, matrixHead, sideForm, sideFields, sideHead}
 use Rattle.readout.specs.Laid.{Laid}
 use Rattle.readout.specs.Places.{setting, callsIn}
-use Rattle.readout.proofs.Lists.{length-each, low-processor, low-cache}
+use Rattle.readout.proofs.Lists.{length-each, low-word}
 
 -- the calls of a record are those of its fields by their places
 pub calls-at : (g : ℕ → ℕ) (f : Form) (bs : List ℕ) → callsIn g f bs ≡ calls f (fieldsAt g (layout f) bs 0)
@@ -49,8 +50,9 @@ length-processor g n bs =
 
 -- in a list of plain numbers there is no reference
 pub list-plain : (g : ℕ → ℕ) (n w : ℕ) (bs : List ℕ) (p : ℕ) → fieldsAt g (replicate n (fld w)) bs p ≡ fieldsAt asIs (replicate n (fld w)) bs p
-list-plain g zero w bs p = refl
-list-plain g (suc n) w bs p = rw (list-plain g n w bs (p + w))
+list-plain g n w bs p =
+    let is = replicate n (fld w) in
+    sym (fields-at g is bs p) ∙ fields-plain g asIs is (drop p bs) (plain-fld n w) ∙ fields-at asIs is bs p
 
 -- ---- records with a reference: the node that a record's own reading gives, under its handle's ordinal
 
@@ -58,18 +60,20 @@ list-plain g (suc n) w bs p = rw (list-plain g n w bs (p + w))
 module _ (g : ℕ → ℕ) (bs : List ℕ) where
   pub processor-named : (n : ProcessorNode) (h : ProcessorHandle) (k : ℕ) → processorShown n ≡ processorIn bs → h .0 ≡ g (n .parent .0) % 4294967296
       → call Processor (n .flags ∷ h .0 ∷ n .«acpi_processor_id» ∷ []) ≡ call Processor (take 3 (fieldsAt g (layout (processor k)) bs 0))
-  unfolding processorIn shown layout
+  unfolding processorIn shown layout layWith body
   processor-named n h k e r =
       let i = value (part bs 16 4) in
       let s : processorShown n ≡ shown (processor i) (fieldsAt asIs (layout (processor i)) bs 0) = e ∙ ap (shown (processor i)) (fields-at asIs (layout (processor i)) bs 0) in
-      low-processor (h .0) (g (n .parent .0)) (n .flags) (n .«acpi_processor_id») r ∙ ap (λ (vs : List ℕ). call Processor (at vs 0 ∷ g (at vs 1) ∷ at vs 2 ∷ [])) s
+      let w : call Processor (n .flags ∷ h .0 ∷ n .«acpi_processor_id» ∷ []) ≡ call Processor (n .flags ∷ g (n .parent .0) ∷ n .«acpi_processor_id» ∷ []) = rw (low-word (h .0) (g (n .parent .0)) r) in
+      w ∙ ap (λ (vs : List ℕ). call Processor (at vs 0 ∷ g (at vs 1) ∷ at vs 2 ∷ [])) s
 
   pub cache-named : (n : CacheNode) (h : CacheHandle) → cacheNode n ≡ nodeAt asIs cache bs → h .0 ≡ g (n .«next_level» .0) % 4294967296
       → callsOfNode (cacheNode (cacheBefore n h)) ≡ callsIn g cache bs
-  unfolding calls layout
+  unfolding calls layout layWith body
   cache-named n h e r =
       let s : cacheShown n ≡ fieldsAt asIs (layout cache) bs 0 = ap (λ (m : Node). m .values) (e ∙ node-at asIs cache bs) in
-      low-cache (h .0) (g (n .«next_level» .0)) (n .flags) (drop 2 (cacheShown n)) r ∙ ap (λ (vs : List ℕ). call Cache (at vs 0 ∷ g (at vs 1) ∷ drop 2 vs)) s ∙ sym (calls-at g cache bs)
+      let w : call Cache (n .flags ∷ h .0 ∷ drop 2 (cacheShown n)) ≡ call Cache (n .flags ∷ g (n .«next_level» .0) ∷ drop 2 (cacheShown n)) = rw (low-word (h .0) (g (n .«next_level» .0)) r) in
+      w ∙ ap (λ (vs : List ℕ). call Cache (at vs 0 ∷ g (at vs 1) ∷ drop 2 vs)) s ∙ sym (calls-at g cache bs)
 
 -- ---- records with a list: the node before it, and the list
 
@@ -134,21 +138,21 @@ module _ (f : Form) (bs : List ℕ) (n : Node) (e : n ≡ nodeAt asIs f bs) wher
   unfolding nodeAt
   node-short h = rw e (one-short f (fieldsWith asIs (layout f) bs) h)
 
-  pub node-laid : (g : ℕ → ℕ) (a b : List ℕ) (p q r : ℕ) → plain (layout f) ≡ true → b ≡ over a p (callsOfNode n) → r ≡ length (callsOfNode n) → q ≡ p + r
+  pub node-laid : (g : ℕ → ℕ) (a b : List ℕ) (p q r : ℕ) → Plain (layout f) → b ≡ over a p (callsOfNode n) → r ≡ length (callsOfNode n) → q ≡ p + r
       → Laid a b p (callsIn g f bs) q
   unfolding nodeAt callsIn
   node-laid g a b p q r h w l m =
-      let z : callsOfNode n ≡ calls f (fieldsWith g (layout f) bs) = ap callsOfNode e ∙ ap (calls f) (sym (fields-plain g (layout f) bs h)) in
+      let z : callsOfNode n ≡ calls f (fieldsWith g (layout f) bs) = ap callsOfNode e ∙ ap (calls f) (sym (fields-plain g asIs (layout f) bs h)) in
       record { bytes = w ∙ ap (over a p) z; next = m ∙ ap (λ (x : ℕ). p + x) (l ∙ ap length z) }
 
--- an initiator has one call and no reference, whatever its handle
-pub initiator-plain : (bs : List ℕ) → (one (formIn initiators bs) ≡ true) × (plain (layout (formIn initiators bs)) ≡ true)
-unfolding formIn layout
-initiator-plain bs = by (eqb (at bs 3) 0)
+-- an initiator has one call, whatever its handle
+pub initiator-one : (bs : List ℕ) → one (formIn initiators bs) ≡ true
+unfolding formIn
+initiator-one bs = by (eqb (at bs 3) 0)
   where
-    by : (b : Bool) → (one (pick b acpi pci) ≡ true) × (plain (layout (pick b acpi pci)) ≡ true)
-    by true = (refl, refl)
-    by false = (refl, refl)
+    by : (b : Bool) → one (pick b acpi pci) ≡ true
+    by true = refl
+    by false = refl
 
 -- ---- the lists of a matrix
 

@@ -19,9 +19,10 @@ use Rattle.format.specs.Out.{every, nodesFrom, headIn, outOf, meaningOf, readOu
 use Rattle.laws.proofs.Bytes.{length-part}
 use Rattle.laws.proofs.Finds.{then-given}
 use Rattle.laws.proofs.Trips.{judged}
+use Rattle.header.proofs.Laws.{front-long}
 use Rattle.frames.specs.Frames.{framesOf}
 use Rattle.readout.specs.Places.{isRow, unlessUnknown, callsAt, measured, recipeAs, outAs}
-use Rattle.readout.proofs.Ordinals.{some-front, agrees-start}
+use Rattle.readout.proofs.Ordinals.{agrees-start}
 use Rattle.readout.proofs.Outs.{out-all}
 
 module _ (t : Table) (rev : ℕ) where
@@ -58,7 +59,7 @@ module _ (b : List ℕ) (t : Table) (ss : List Seen) (h : judgeHead b ≡ given 
   identity-long : length (part b 10 26) ≡ 26
   identity-long =
       let J = judged b t h in
-      length-part b 10 26 (omega (arith, J .long, J .lent, some-front t))
+      length-part b 10 26 (omega (arith, J .long, J .lent, front-long t))
 
   measured-is : measured t (at b 8) (own b) ≡ andThen (callsIf (nodesFrom [] [] ss)) (λ cs. given (28 + length cs))
   unfolding measured
@@ -113,7 +114,7 @@ pub judged-sizes : (b : List ℕ) (t : Table) → judgeHead b ≡ given t → (3
 judged-sizes b t h =
     let J = judged b t h in
     let l : length (own b) ≡ lengthIn b = length-take-le (lengthIn b) b (J .lent) in
-    (omega (arith, J .long, J .lent, some-front t), omega (arith, J .short))
+    (omega (arith, J .long, J .lent, front-long t), omega (arith, J .short))
 
 pub accepted-then : (b : List ℕ) (t : Table) (k : ℕ) → judgeHead b ≡ given t → given k ≡ andThen (accept b every) (λ ss. given (length ss)) → (ss : List Seen) × (walked t b every ≡ given ss)
 unfolding accept

@@ -2,16 +2,18 @@
 use mathlib.Core.Path.{_≡_, refl}
 use Prim.Native.Nat.{ℕ}
 use mathlib.Core.List.{List}
-use lib.ListN.{length}
 use lib.Dec.{eqb}
 use Rattle.format.specs.Bytes.{pick, Answer, refused, given}
-use Rattle.format.specs.Out.{readOut, outWritten}
+use Rattle.laws.specs.Unique.{Fixes}
 use Rattle.laws.proofs.Sole.{sole, sole-meant, sole-pair}
 use Rattle.frames.specs.declared.Refusal.the-variants.{Short, BadSign, BadLength, BadSum, BadFront, BadFrame, BadRecord, BadRef, NoRecord}
 use Rattle.frames.proofs.Unique.{refusalOf}
 use Rattle.readout.specs.declared.ReadOut.{ReadOut}
 use Rattle.readout.specs.declared.ReadOut.the-variants as out
 use Rattle.readout.specs.Answers.{shown}
+use Rattle.readout.proofs.ReadOut.number.Reads as ReadOut-number
+use Rattle.readout.proofs.ReadOut.place.Reads as ReadOut-place
+use Rattle.readout.proofs.read_out.Reads as read-out
 
 abbrev outOf : Answer ℕ → ReadOut
 outOf (given n) = out.Written n
@@ -33,9 +35,22 @@ out-back (out.Refused (BadRecord p)) = refl
 out-back (out.Refused (BadRef p)) = refl
 out-back (out.Refused (NoRecord n)) = refl
 
--- `read_out`: an outcome is the answer and the buffer afterwards
-pub one-out : (table buffer : List ℕ) (a b : ReadOut) (x y : List ℕ)
-    → shown a ≡ readOut table (length buffer) → x ≡ outWritten table buffer
-    → shown b ≡ readOut table (length buffer) → y ≡ outWritten table buffer
-    → _≡_ {A = ReadOut × List ℕ} (a, x) (b, y)
-one-out table buffer a b x y e l f m = sole-pair (sole-meant shown outOf out-back a b _ e f) (sole l m)
+-- `read_out`
+pub one-out : (a b : ReadOut) (n : Answer ℕ) → shown a ≡ n → shown b ≡ n → a ≡ b
+one-out = sole-meant shown outOf out-back
+
+-- ---- the contracts
+
+-- for each public function: what its contract fixes of the result `x` and of the parameters afterwards, `p`
+pub record Unique : Type 0 where
+  ReadOut-number : Fixes ReadOut-number.Learnt (λ k x p. x)
+  ReadOut-place : Fixes ReadOut-place.Learnt (λ k x p. x)
+  read-out : Fixes {S = ReadOut × List ℕ} read-out.Learnt (λ k x p. (x, p .1 .0 .now))
+
+pub unique : Unique
+unique =
+    record {
+      ReadOut-number = λ k a x y p q. sole;
+      ReadOut-place = λ k a x y p q. sole;
+      read-out = λ k a x y p q l m. sole-pair (one-out x y _ (l .0) (m .0)) (sole (l .1) (m .1));
+    }

@@ -3,3 +3,4 @@ pub mod Refers
 pub mod Steps
 pub mod Walks
 pub mod Unique
+pub mod Bodies

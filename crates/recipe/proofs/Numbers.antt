@@ -2,18 +2,17 @@
 use mathlib.Core.Path.{_≡_, sym, ap, _∙_}
 use Prim.Native.Nat.{ℕ, suc, _≤_, _<_}
 use mathlib.Core.List.{List}
-use mathlib.Core.Bool.{Bool, true, false, not}
 use mathlib.Core.Option.{none}
 use native.Mathlib.Nat.{mul-le-mul}
 use native.Mathlib.Omega.{arith}
-use borrow.Author.Tests.{ne-eqb, not-true, not-false}
+use borrow.Author.Tests.{ne-eqb}
 use Rattle.format.specs.Bytes.{at}
 use Rattle.format.specs.Table.{Table, pptt, srat, hmat}
-use Rattle.format.specs.Layout.{asIs, width, fields}
+use Rattle.format.specs.Layout.{width, fields}
 use Rattle.format.specs.Form.{size}
 use Rattle.format.specs.Kind.{Kind, Processor, Resource, Cache, Memory, Acpi, Pci, Rintc, Domain, Matrix, Initiator, Target, Cell, Side, Handle, kindOf, body}
 use Rattle.laws.proofs.Bytes.{value-byte}
-use Rattle.laws.proofs.Offsets.{fields-at}
+use Rattle.laws.proofs.Fields.{fields-now}
 use Rattle.hmat.specs.declared.SystemLocality.{SystemLocality}
 use Rattle.hmat.specs.Hmat.{matrixForm, matrixCall}
 
@@ -42,19 +41,12 @@ nowhere hmat b p s h = unnamed hmat b h
 pub past : {a b : ℕ} → a ≤ b → (b ≡ a → ⊥) → suc a ≤ b
 past h ne = omega (arith, ne)
 
--- what a negated test says of what the tested call returns
-pub passes : {r x : Bool} → r ≡ x → not r ≡ false → x ≡ true
-passes {r} e h = rw e at (not-false r h)
-
-pub fails : {r x : Bool} → r ≡ x → not r ≡ true → x ≡ false
-fails {r} e h = rw e at (not-true r h)
-
 -- a matrix of a recipe's record is short: its counts are a byte each
 pub matrix-short : (m : SystemLocality) (bs : List ℕ) → matrixCall m ≡ fields (body Matrix) bs → at bs 11 < 256 → at bs 12 < 256 → size (matrixForm m) ≤ 132122
 unfolding body
 matrix-short m bs e h l =
-    let i : m .initiators ≡ at bs 11 = ap (λ vs. at vs 4) (e ∙ fields-at asIs (body Matrix) bs 0) ∙ sym (value-byte bs 11) in
-    let t : m .targets ≡ at bs 12 = ap (λ vs. at vs 5) (e ∙ fields-at asIs (body Matrix) bs 0) ∙ sym (value-byte bs 12) in
+    let i : m .initiators ≡ at bs 11 = ap (λ vs. at vs 4) (e ∙ fields-now Matrix bs) ∙ sym (value-byte bs 11) in
+    let t : m .targets ≡ at bs 12 = ap (λ vs. at vs 5) (e ∙ fields-now Matrix bs) ∙ sym (value-byte bs 12) in
     let a : m .initiators ≤ 255 = omega arith in
     let b : m .targets ≤ 255 = omega arith in
     omega (arith, mul-le-mul a b)

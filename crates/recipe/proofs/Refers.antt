@@ -1,5 +1,5 @@
 -- References: a look into the types of the recipe's nodes says what the entries of the nodes so far say, by induction over the nodes.
-use mathlib.Core.Path.{_≡_, refl, ap}
+use mathlib.Core.Path.{_≡_, refl}
 use Prim.Native.Nat.{ℕ, zero, suc, _+_, _-_}
 use mathlib.Core.List.{List, [], _∷_, _++_, append-assoc}
 use mathlib.Core.Bool.{Bool, true, false}
@@ -18,17 +18,13 @@ use Rattle.header.specs.Header.{meant, tableNamed}
 use Rattle.recipe.specs.declared.State.{State}
 use Rattle.recipe.specs.Machine.{stateOf, none-made, nodeTypes, typesOf, names, Begins, refers, Finds}
 use Rattle.format.specs.Kind.{Kind, Processor, Resource, Cache, Memory, Acpi, Pci, Rintc, Domain, Matrix, Initiator, Target, Cell, Side, Handle, kindOf}
+use Rattle.laws.proofs.Faults.{length-starts}
 use Rattle.laws.proofs.Builds.{kind-home}
 
 length-types : (ns : List Node) → length (typesOf ns) ≡ length ns
 unfolding typesOf
 length-types [] = refl
 length-types (n ∷ ns) = rw length-append (omega (arith, length-types ns))
-
-length-starts : (t : Table) (ns : List Node) → length (starts t ns) ≡ length ns
-unfolding starts
-length-starts t [] = refl
-length-starts t (n ∷ ns) = ap suc (length-starts t ns)
 
 -- one ordinal more
 names-more : (ts : List ℕ) (own to ty : ℕ) → names ts (suc (suc own)) to ty ≡ pick (eqb (suc own) to) (eqb (getD ts own none-made) ty) (names ts (suc own) to ty)

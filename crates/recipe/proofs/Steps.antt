@@ -11,7 +11,7 @@ use lib.Dec.{eqb, leb, ltb}
 use borrow.Author.Tests.{le-ltb}
 use denote.Enum.Declared.{tagOf}
 use types.Run.{OneOf, miss}
-use Rattle.format.specs.Bytes.{pick, both, all, firstOf, Answer, refused, given, unless, at}
+use Rattle.format.specs.Bytes.{pick, all, firstOf, Answer, refused, given, unless, at}
 use Rattle.format.specs.Layout.{fields, refsGood}
 use Rattle.format.specs.Table.{Table, front, limit}
 use Rattle.format.specs.Form.{Form, processor, cache, memory, acpi, pci, rintc, domain, matrix, side, size, ranges}
@@ -19,6 +19,7 @@ use Rattle.format.specs.Node.{Node, node, sizes, starts, atOrdinal}
 use Rattle.format.specs.Kind.{Kind, Processor, Resource, Cache, Handle, body}
 use Rattle.format.specs.Recipe.{Step as Asked, Newest, aProcessor, aMatrix, aSide, other, newest, newestAs, resource, handle, setting, stray, makes, step, fault}
 use Rattle.format.specs.Field.{badIn, badField}
+use Rattle.laws.proofs.Tests.{both-right}
 use Rattle.laws.proofs.Fits.{second}
 use Rattle.laws.proofs.Fields.{all-bad, good-fields}
 use Rattle.header.specs.Header.{meant}
@@ -95,23 +96,19 @@ module _ (k : Kind) (f : Form) (bs us : List ℕ) (same : (ns : List Node) → s
 
 -- ---- references
 
-both-end : (b : Bool) → both b true ≡ b
-both-end true = refl
-both-end false = refl
-
 -- the one reference of a body
 module _ (ok : ℕ → ℕ → Bool) (vs : List ℕ) where
   processor-refs : refsGood ok (body Processor) vs ≡ pick (eqb (at vs 1) 0) true (ok (at vs 1) 0)
   unfolding body refsGood
-  processor-refs = rw (second vs) (both-end _)
+  processor-refs = rw (second vs) (both-right _)
 
   cache-refs : refsGood ok (body Cache) vs ≡ pick (eqb (at vs 1) 0) true (ok (at vs 1) 1)
   unfolding body refsGood
-  cache-refs = rw (second vs) (both-end _)
+  cache-refs = rw (second vs) (both-right _)
 
   resource-refs : refsGood ok (body Resource) vs ≡ ok (at vs 0) 1
   unfolding body refsGood
-  resource-refs = both-end _
+  resource-refs = both-right _
 
 -- new nodes that have one
 module _ (t : Table) (ns : List Node) (s : State) (e : s ≡ stateOf t ns) (r : List ℕ) (b : Begins r t ns) (p : ℕ) (bs : List ℕ) (f : ℕ) where

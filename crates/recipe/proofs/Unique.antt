@@ -6,7 +6,8 @@ use lib.Dec.{eqb}
 use Rattle.format.specs.Bytes.{pick, Answer, refused, given}
 use Rattle.format.specs.Table.{Table}
 use Rattle.format.specs.Kind as format
-use Rattle.laws.proofs.Sole.{sole-meant}
+use Rattle.laws.specs.Unique.{Fixes}
+use Rattle.laws.proofs.Sole.{sole, sole-meant}
 use Rattle.header.specs.Header.{tableNamed}
 use Rattle.header.proofs.Unique.{table-back}
 use Rattle.recipe.specs.declared.Kind.{Kind}
@@ -19,6 +20,10 @@ use Rattle.recipe.specs.declared.Checked.{Checked}
 use Rattle.recipe.specs.declared.Checked.the-variants.{Good, Refused}
 use Rattle.recipe.specs.Kinds.{meantKind, named}
 use Rattle.recipe.specs.Answers.{number, shown}
+use Rattle.recipe.proofs.Kind.body_len.Reads as Kind-body-len
+use Rattle.recipe.proofs.Kind.refers.Reads as Kind-refers
+use Rattle.recipe.proofs.kind_of.Reads as kind-of
+use Rattle.recipe.proofs.check.Reads as check
 
 -- ---- kinds
 
@@ -63,7 +68,7 @@ named-back (As k) = ap As (kind-back k)
 named-back Nothing = refl
 
 -- `kind_of`
-pub one-kind : (a b : Named) (k : Option format.Kind) → named a ≡ k → named b ≡ k → a ≡ b
+one-kind : (a b : Named) (k : Option format.Kind) → named a ≡ k → named b ≡ k → a ≡ b
 one-kind = sole-meant named namedIn named-back
 
 -- ---- answers
@@ -92,5 +97,23 @@ checked-back (Good t n) = rw table-back
 checked-back (Refused f p) = rw refusal-back
 
 -- `check`
-pub one-check : (a b : Checked) (o : Answer (Table × ℕ)) → shown a ≡ o → shown b ≡ o → a ≡ b
+one-check : (a b : Checked) (o : Answer (Table × ℕ)) → shown a ≡ o → shown b ≡ o → a ≡ b
 one-check = sole-meant shown checkedOf checked-back
+
+-- ---- the contracts
+
+-- for each public function: what its contract fixes of the result `x` and of the parameters afterwards, `p`
+pub record Unique : Type 0 where
+  Kind-body-len : Fixes Kind-body-len.Learnt (λ k x p. x)
+  Kind-refers : Fixes Kind-refers.Learnt (λ k x p. x)
+  kind-of : Fixes kind-of.Learnt (λ k x p. x)
+  check : Fixes check.Learnt (λ k x p. x)
+
+pub unique : Unique
+unique =
+    record {
+      Kind-body-len = λ k a x y p q. sole;
+      Kind-refers = λ k a x y p q. sole;
+      kind-of = λ k a x y p q. one-kind x y _;
+      check = λ k a x y p q. one-check x y _;
+    }

@@ -19,11 +19,12 @@ use Rattle.format.specs.Node.{Node, sizes}
 use Rattle.format.specs.Kind.{Kind, Processor, Resource, Cache, Memory, Acpi, Pci, Rintc, Domain, Matrix, Initiator, Target, Cell, Side, Handle, kindOf, body}
 use Rattle.format.specs.Recipe.{Newest, aProcessor, aMatrix, aSide, other, cutAs, skip, cut, newest, resource, handle, setting, step, added, fault, since, run, tableOf, headed, meaning}
 use Rattle.laws.proofs.Bytes.{drop-turn, value-byte}
-use Rattle.laws.proofs.Finds.{unless-given}
+use Rattle.laws.proofs.Finds.{never, unless-given}
 use Rattle.laws.proofs.Lays.{both-true}
 use Rattle.laws.proofs.Offsets.{fields-at}
 use Rattle.laws.proofs.Grows.{passed}
 use Rattle.laws.proofs.Calls.{cut-skip}
+use Rattle.laws.proofs.Settings.{table-back}
 use Rattle.laws.proofs.Links.{size-pos}
 use Rattle.header.specs.declared.Table.the-variants.{Hmat}
 use Rattle.header.specs.Header.{meant}
@@ -89,9 +90,6 @@ pub leads-nowhere : (ts : List ℕ) (i n j : ℕ) → drop n ts ≡ [] → n + j
 leads-nowhere ts i n j z e = sym (rw (← e, ← getD-drop n ts j none-made, z))
 
 -- ---- the types of the nodes with one record more
-
-never : {A : Type 0} → false ≡ true → A
-never e = absurd (let z : _≡_ {A = ℕ} 0 1 = cc in omega arith)
 
 -- by what the newest of ns is
 abbrev typesSeen : List Node → Newest → List ℕ
@@ -261,11 +259,6 @@ module _ (r : List ℕ) (h : Head) (p : ℕ) (s : State) (w : Stands r h p s) (i
 
 -- ---- the head
 
-table-code : (t : Table) → tableOf (code t) ≡ some t
-table-code pptt = refl
-table-code srat = refl
-table-code hmat = refl
-
 module _ (r : List ℕ) where
   pub no-head : (value (part r 0 1) ≡ 1 → ⊥) → meaning r ≡ refused 1 0
   unfolding meaning headed
@@ -283,4 +276,4 @@ module _ (r : List ℕ) where
 
       pub headed-by : (t : Table) → value (part r 1 1) ≡ code t → meaning r ≡ whole r (headOf t (part r 2 26))
       unfolding meaning headed
-      headed-by t z = rw (value-byte r 0, e, le-ltb _ _ l, value-byte r 1, z, table-code t)
+      headed-by t z = rw (value-byte r 0, e, le-ltb _ _ l, value-byte r 1, z, table-back t)

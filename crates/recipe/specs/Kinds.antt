@@ -1,9 +1,10 @@
 -- What the kinds of the code are in the words of the format, and what a record of each names.
 use Prim.Native.Nat.{ℕ}
-use mathlib.Core.List.{List}
+use mathlib.Core.List.{List, [], _∷_, _++_}
 use mathlib.Core.Option.{Option, none, some}
+use lib.ListN.{drop}
 use Rattle.format.specs.Bytes.{at}
-use Rattle.format.specs.Layout.{fields}
+use Rattle.format.specs.Layout.{Item, fix, fld, two, to, orNone, arity, fields}
 use Rattle.format.specs.Kind.{body}
 use Rattle.format.specs.Kind as format
 use Rattle.recipe.specs.declared.Reference.{Reference}
@@ -53,6 +54,25 @@ naming format.Handle vs = names.Nothing
 -- of a record whose body the bytes begin with
 abbrev pub referenceOf : format.Kind → List ℕ → Reference
 referenceOf k bs = naming k (fields (body k) bs)
+
+-- a reference as the type of what it names and the ordinal, in a list of one, or none
+abbrev pub listed : Reference → List (ℕ × ℕ)
+listed (names.Processor h) = (0, h .0) ∷ []
+listed (names.Cache h) = (1, h .0) ∷ []
+listed names.Nothing = []
+
+-- the references that an item holds, of the fields vs
+abbrev pub heldIn : Item → List ℕ → List (ℕ × ℕ)
+heldIn (fix w v) vs = []
+heldIn (fld w) vs = []
+heldIn (two w k) vs = []
+heldIn (to t) vs = (t, at vs 0) ∷ []
+heldIn (orNone t) vs = (t, at vs 0) ∷ []
+
+-- all references of a layout
+abbrev pub references : List Item → List ℕ → List (ℕ × ℕ)
+references [] vs = []
+references (i ∷ is) vs = heldIn i vs ++ references is (drop (arity i) vs)
 
 -- the ordinal; 0 for none
 abbrev pub ordinalIn : Reference → ℕ

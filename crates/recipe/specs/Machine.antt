@@ -18,6 +18,7 @@ use Rattle.recipe.specs.declared.Newest as kept
 use Rattle.recipe.specs.declared.Newest.the-variants as is
 use Rattle.marks.specs.declared.Mark.{Mark}
 use Rattle.marks.specs.declared.Marks.{Marks}
+use Rattle.marks.specs.Marks.{Every}
 use Rattle.recipe.specs.declared.State.{State}
 use Rattle.recipe.specs.declared.Refusal.the-variants.{BadField, TooLong}
 use Rattle.recipe.specs.declared.Step.{Step}
@@ -111,8 +112,9 @@ Finds ts to f = (to ≡ 0 → ⊥) → f ≡ getD ts (to - 1) none-made
 abbrev pub Leads : List ℕ → Mark → Type 0
 Leads r m = typesIn pptt 0 (drop (m .place) r) ≡ drop (m .nodes) (nodeTypes pptt r)
 
+-- and so from all three
 abbrev pub Leading : List ℕ → Marks → Type 0
-Leading r m = Leads r (m .parent) × Leads r (m .cache) × Leads r (m .back)
+Leading r m = Every (Leads r) m
 
 -- ---- one record
 

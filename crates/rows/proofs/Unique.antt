@@ -3,10 +3,15 @@ use mathlib.Core.Path.{_≡_, refl}
 use mathlib.Core.Option.{Option, none, some}
 use Rattle.format.specs.Row.{processors, caches, memories, initiators, rintcs, domains, matrices, sides}
 use Rattle.format.specs.Row as format
-use Rattle.laws.proofs.Sole.{sole-meant}
+use Rattle.laws.specs.Unique.{Fixes}
+use Rattle.laws.proofs.Sole.{sole, sole-meant}
 use Rattle.rows.specs.declared.Row.{Row}
 use Rattle.rows.specs.declared.Row.the-variants.{Processors, Caches, Memories, Initiators, Rintcs, Domains, Matrices, Sides, Unknown}
 use Rattle.rows.specs.Rows.{rowMeant}
+use Rattle.rows.proofs.row_of.Reads as row-of
+use Rattle.rows.proofs.known.Reads as known
+use Rattle.rows.proofs.sound.Reads as sound
+use Rattle.rows.proofs.part.Reads as part
 
 abbrev rowNamed : Option format.Row → Row
 rowNamed none = Unknown
@@ -31,5 +36,23 @@ row-back Sides = refl
 row-back Unknown = refl
 
 -- `row_of` and `known`
-pub one-row : (a b : Row) (r : Option format.Row) → rowMeant a ≡ r → rowMeant b ≡ r → a ≡ b
+one-row : (a b : Row) (r : Option format.Row) → rowMeant a ≡ r → rowMeant b ≡ r → a ≡ b
 one-row = sole-meant rowMeant rowNamed row-back
+
+-- ---- the contracts
+
+-- for each public function: what its contract fixes of the result `x` and of the parameters afterwards, `p`
+pub record Unique : Type 0 where
+  row-of : Fixes row-of.Learnt (λ k x p. x)
+  known : Fixes known.Learnt (λ k x p. x)
+  sound : Fixes sound.Learnt (λ k x p. x)
+  part : Fixes part.Learnt (λ k x p. x .now)
+
+pub unique : Unique
+unique =
+    record {
+      row-of = λ k a x y p q. one-row x y _;
+      known = λ k a x y p q. one-row x y _;
+      sound = λ k a x y p q. sole;
+      part = λ k a x y p q. sole;
+    }

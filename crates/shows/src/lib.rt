@@ -8,6 +8,7 @@ mod words;
 
 use frames::Refusal;
 use frames::Spelled;
+use header::TableHeader;
 use libc::STDOUT_FILENO;
 use read::Accepted;
 use read::Node;
@@ -36,7 +37,7 @@ fn text_line(word: &[u8], s: &[u8], n: usize) {
 // The header, and the number of records.
 fn head(table: &[u8], count: usize) {
     signature(table);
-    words::line(b"revision", field::get_u8(table, 8) as u64);
+    words::line(b"revision", TableHeader::revision_in(table) as u64);
     words::line(b"length", field::get_u32(table, 4) as u64);
     words::hex_line(b"checksum", field::get_u8(table, 9) as u64);
     text_line(b"OEM ID", field::rest(table, 10), 6);
@@ -101,7 +102,7 @@ fn record(table: &[u8], i: u64, s: Shown)
     words::say(b" at ");
     words::number(s.place as u64);
     words::say(b": type ");
-    words::number(s.kind as u64);
+    words::number(s.ty as u64);
     words::say(b", length ");
     words::number(s.length as u64);
     words::say(b", ");

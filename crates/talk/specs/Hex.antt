@@ -8,10 +8,6 @@ use Rattle.format.specs.Bytes.{pick, both, same}
 use Rattle.talk.specs.declared.Data.{Data}
 use Rattle.talk.specs.declared.Data.the-variants.{Count, TooLong, Other}
 
--- the digit of a number's low four bits: '0' is 48, 'a' is 97
-unfoldable pub digitOf : ℕ → ℕ
-digitOf v = pick (ltb (v % 16) 10) (48 + v % 16) (97 + (v % 16 - 10))
-
 -- the number of a digit; 16 for another byte
 unfoldable pub valueOf : ℕ → ℕ
 valueOf b =

@@ -2,6 +2,7 @@
 use Prim.Native.Nat.{ℕ, suc}
 use mathlib.Core.List.{List, [], _∷_}
 use lib.Dec.{eqb}
+use lib.ListN.{take, drop}
 use Rattle.format.specs.Bytes.{pick, same}
 use Rattle.talk.specs.declared.Call.{Call}
 use Rattle.talk.specs.declared.Call.the-variants.{Build, Out, Read, Other}
@@ -10,6 +11,14 @@ use Rattle.talk.specs.declared.Call.the-variants.{Build, Out, Read, Othe
 unfoldable pub spaceIn : List ℕ → ℕ
 spaceIn [] = 0
 spaceIn (b ∷ bs) = pick (eqb b 32) 0 (suc (spaceIn bs))
+
+-- what stands before it
+abbrev pub wordIn : List ℕ → List ℕ
+wordIn s = take (spaceIn s) s
+
+-- what stands behind it
+abbrev pub behindIn : List ℕ → List ℕ
+behindIn s = drop 1 (drop (spaceIn s) s)
 
 -- the words 'build', 'out' and 'read'
 unfoldable pub callIn : List ℕ → Call

@@ -1,11 +1,11 @@
 // Requests as text: words, decimal numbers, bytes as hexadecimal digits. Any function takes any bytes.
 ghost use mathlib.Core.Path.{_≡_};
 ghost use Prim.Native.Nat.{_≤_};
-ghost use lib.ListN.{length, take, drop};
+ghost use lib.ListN.{length};
 ghost use Rattle.format.specs.Bytes.{over};
-ghost use Rattle.talk.specs.Words.{spaceIn, callIn};
+ghost use Rattle.talk.specs.Words.{spaceIn, wordIn, behindIn, callIn};
 ghost use Rattle.talk.specs.Numbers.{stepTo, numberIn};
-ghost use Rattle.talk.specs.Hex.{digitOf, valueOf, pairOf, allHex, pairs, dataIn, allAre};
+ghost use Rattle.talk.specs.Hex.{valueOf, pairOf, allHex, pairs, dataIn, allAre};
 
 // ---- words
 
@@ -25,7 +25,7 @@ fn space(text: &[u8]) -> usize
 
 // What stands before the first space.
 pub fn word(text: &[u8]) -> &[u8]
-    ensures { λ r. ⌜ now r ≡ take (spaceIn (now (text .entry))) (now (text .entry)) ⌝ }
+    ensures { λ r. ⌜ now r ≡ wordIn (now (text .entry)) ⌝ }
 {
     let n = space(text);
     &text[..n]
@@ -33,7 +33,7 @@ pub fn word(text: &[u8]) -> &[u8]
 
 // What stands behind the first space.
 pub fn behind(text: &[u8]) -> &[u8]
-    ensures { λ r. ⌜ now r ≡ drop 1 (drop (spaceIn (now (text .entry))) (now (text .entry))) ⌝ }
+    ensures { λ r. ⌜ now r ≡ behindIn (now (text .entry)) ⌝ }
 {
     field::rest(field::rest(text, space(text)), 1)
 }
@@ -110,19 +110,8 @@ pub fn decimal(text: &[u8], most: u64) -> Number
 
 // ---- hexadecimal digits, lower case
 
-// The digit of a number below 16.
-pub fn digit(v: u8) -> u8
-    ensures { λ r. ⌜ r ≡ digitOf v ⌝ }
-{
-    let low = v % 16;
-    if low < 10 {
-        return b'0' + low;
-    }
-    b'a' + (low - 10)
-}
-
 // The number of a digit; 16 for another byte.
-pub fn value(b: u8) -> u8
+fn value(b: u8) -> u8
     ensures { λ r. ⌜ r ≡ valueOf b ⌝ }
 {
     if b < b'0' {

@@ -5,7 +5,8 @@ use borrow.Author.Needs.{needs}
 use lib.ListN.{length}
 use Rattle.read.specs.Places.{seenAt}
 use Rattle.read.proofs.Listing.{shown-next, body-room}
-use Rattle.acpi.proofs.Records.{part-low, seen-place, at-place}
+use Rattle.read.proofs.Once.{seen-place}
+use Rattle.acpi.proofs.Records.{part-low, at-place}
 use Rattle.acpi.proofs.acpi_record_at.Statement.{statement}
 use Rattle.acpi.proofs.acpi_record_at.Tie as tie
 

@@ -1,5 +1,5 @@
 -- `put` meets its contract: kind by kind, what the called function writes is the record of the format.
-use mathlib.Core.Path.{refl, ap, _∙_}
+use mathlib.Core.Path.{ap, _∙_}
 use Prim.Native.Nat.{ℕ}
 use mathlib.Core.List.{List}
 use borrow.Author.Needs.{needs}
@@ -45,35 +45,35 @@ unfolding wrote layout
 returns-4 c =
     let d = c .before .before in
     let e = d .before .before in
-    rw (e .before .enum-told4 .given .1) (d .put3 .ensures ∙ plain-appended memory _ _ _ _ (e .from-body3 .ensures) refl)
+    rw (e .before .enum-told4 .given .1) (d .put3 .ensures ∙ plain-appended memory _ _ _ _ (e .from-body3 .ensures) tt)
 
 returns-5 : tie.Need-returns-5
 unfolding wrote layout
 returns-5 c =
     let d = c .before .before in
     let e = d .before .before in
-    rw (e .before .enum-told5 .given .1) (d .put4 .ensures ∙ plain-appended acpi _ _ _ _ (e .from-acpi-body .ensures) refl)
+    rw (e .before .enum-told5 .given .1) (d .put4 .ensures ∙ plain-appended acpi _ _ _ _ (e .from-acpi-body .ensures) tt)
 
 returns-6 : tie.Need-returns-6
 unfolding wrote layout
 returns-6 c =
     let d = c .before .before in
     let e = d .before .before in
-    rw (e .before .enum-told6 .given .1) (d .put5 .ensures ∙ plain-appended pci _ _ _ _ (e .from-pci-body .ensures) refl)
+    rw (e .before .enum-told6 .given .1) (d .put5 .ensures ∙ plain-appended pci _ _ _ _ (e .from-pci-body .ensures) tt)
 
 returns-7 : tie.Need-returns-7
 unfolding wrote layout
 returns-7 c =
     let d = c .before .before in
     let e = d .before .before in
-    rw (e .before .enum-told7 .given .1) (d .put6 .ensures ∙ plain-appended rintc _ _ _ _ (e .from-body4 .ensures) refl)
+    rw (e .before .enum-told7 .given .1) (d .put6 .ensures ∙ plain-appended rintc _ _ _ _ (e .from-body4 .ensures) tt)
 
 returns-8 : tie.Need-returns-8
 unfolding wrote layout
 returns-8 c =
     let d = c .before .before in
     let e = d .before .before in
-    rw (e .before .enum-told8 .given .1) (d .put7 .ensures ∙ plain-appended domain _ _ _ _ (e .from-body5 .ensures) refl)
+    rw (e .before .enum-told8 .given .1) (d .put7 .ensures ∙ plain-appended domain _ _ _ _ (e .from-body5 .ensures) tt)
 
 returns-9 : tie.Need-returns-9
 unfolding wrote

@@ -1,9 +1,9 @@
 -- `field::rest` meets its contract: a part that ends where the slice ends is what is left of it, and past the end nothing is left.
-use mathlib.Core.Path.{_≡_, _∙_, sym}
+use mathlib.Core.Path.{_∙_, sym}
 use Prim.Native.Nat.{_-_, _≤_}
 use borrow.Author.Needs.{needs}
 use native.Mathlib.Omega.{arith}
-use lib.ListN.{length, take, drop, length-drop, drop-of-length-le}
+use lib.ListN.{length, drop, length-drop, drop-of-length-le}
 use lib.Seq.{take-all}
 use Rattle.field.proofs.rest.Statement.{statement}
 use Rattle.field.proofs.rest.Tie as tie

@@ -1,5 +1,5 @@
 -- `put_front` meets its contract: each table's items, laid one behind the other.
-use mathlib.Core.Path.{sym, _∙_}
+use mathlib.Core.Path.{sym}
 use mathlib.Core.List.{[], append-nil}
 use native.Mathlib.Omega.{arith}
 use borrow.Author.Needs.{needs}

@@ -10,7 +10,7 @@ unfolding accept walked
 returns c =
     let g = c .before in
     let t = g .before .before .before in
-    rw (← t .before .before .judge-head .ensures, t .t .given .1, value-byte, ← g .get-u8 .ensures, ← g .before .own .ensures) (c .scan .ensures)
+    rw (← t .before .before .judge-head .ensures, t .t .given .1, value-byte, ← g .revision-in .ensures, ← g .before .own .ensures) (c .scan .ensures)
 
 returns-2 : tie.Need-returns-2
 unfolding accept

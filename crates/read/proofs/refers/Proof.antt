@@ -14,7 +14,7 @@ returns-2 : tie.Need-returns-2
 unfolding refers
 returns-2 c =
     let n = c .before in
-    rw (lt-ltb _ _ (n .before .if1 .left)) (c .starts .ensures ∙ sym (n .near .ensures (n .before .before .before .before .args .kind)))
+    rw (lt-ltb _ _ (n .before .if1 .left)) (c .starts .ensures ∙ sym (n .near .ensures (n .before .before .before .before .args .ty)))
 
 pub refers-spec : {M : Type 1} → statement M
 refers-spec = tie.close (tie.spec returns (λ c κs. search needs) (λ c κs. search needs) returns-2)

@@ -6,8 +6,9 @@ use borrow.Author.Needs.{needs}
 use Rattle.format.specs.Form.{memory, rintc, domain, layout}
 use Rattle.format.specs.Row.{initiators, matrices, formIn}
 use Rattle.rows.specs.Rows.{rowMeant}
+use Rattle.read.proofs.Refs.{plain-row}
 use Rattle.readout.proofs.Lists.{none-laid}
-use Rattle.readout.proofs.Records.{node-short, node-laid, initiator-plain}
+use Rattle.readout.proofs.Records.{node-short, node-laid, initiator-one}
 use Rattle.readout.proofs.put_record.Statement.{statement}
 use Rattle.readout.proofs.put_record.Tie as tie
 
@@ -37,20 +38,20 @@ returns-3 c =
     let v = c .before .before in
     let g = v .before .before in
     let l = node-short memory _ _ (g .get .ensures) refl in
-    rw (g .before .enum-told3 .given .1) (node-laid memory _ _ (g .get .ensures) _ _ _ _ _ _ refl (v .put-body .ensures .0) (v .put-body .ensures .1) refl, omega (arith, l, v .put-body .ensures .1))
+    rw (g .before .enum-told3 .given .1) (node-laid memory _ _ (g .get .ensures) _ _ _ _ _ _ tt (v .put-body .ensures .0) (v .put-body .ensures .1) refl, omega (arith, l, v .put-body .ensures .1))
 
 add-result-2 : tie.Need-add-result-2
 add-result-2 c =
     let v = c .before .before in
-    let l = node-short (formIn initiators _) _ _ (v .before .before .get2 .ensures) (initiator-plain _ .0) in
+    let l = node-short (formIn initiators _) _ _ (v .before .before .get2 .ensures) (initiator-one _) in
     omega (arith, l, v .put-body2 .ensures .1)
 
 returns-4 : tie.Need-returns-4
 returns-4 c =
     let v = c .before .before in
     let g = v .before .before in
-    let l = node-short (formIn initiators _) _ _ (g .get2 .ensures) (initiator-plain _ .0) in
-    rw (g .before .enum-told4 .given .1) (node-laid (formIn initiators _) _ _ (g .get2 .ensures) _ _ _ _ _ _ (initiator-plain _ .1) (v .put-body2 .ensures .0) (v .put-body2 .ensures .1) refl, omega (arith, l, v .put-body2 .ensures .1))
+    let l = node-short (formIn initiators _) _ _ (g .get2 .ensures) (initiator-one _) in
+    rw (g .before .enum-told4 .given .1) (node-laid (formIn initiators _) _ _ (g .get2 .ensures) _ _ _ _ _ _ (plain-row initiators _ tt) (v .put-body2 .ensures .0) (v .put-body2 .ensures .1) refl, omega (arith, l, v .put-body2 .ensures .1))
 
 add-result-3 : tie.Need-add-result-3
 add-result-3 c =
@@ -64,7 +65,7 @@ returns-5 c =
     let v = c .before .before in
     let g = v .before .before in
     let l = node-short rintc _ _ (g .get3 .ensures) refl in
-    rw (g .before .enum-told5 .given .1) (node-laid rintc _ _ (g .get3 .ensures) _ _ _ _ _ _ refl (v .put-body3 .ensures .0) (v .put-body3 .ensures .1) refl, omega (arith, l, v .put-body3 .ensures .1))
+    rw (g .before .enum-told5 .given .1) (node-laid rintc _ _ (g .get3 .ensures) _ _ _ _ _ _ tt (v .put-body3 .ensures .0) (v .put-body3 .ensures .1) refl, omega (arith, l, v .put-body3 .ensures .1))
 
 add-result-4 : tie.Need-add-result-4
 add-result-4 c =
@@ -78,7 +79,7 @@ returns-6 c =
     let v = c .before .before in
     let g = v .before .before in
     let l = node-short domain _ _ (g .get4 .ensures) refl in
-    rw (g .before .enum-told6 .given .1) (node-laid domain _ _ (g .get4 .ensures) _ _ _ _ _ _ refl (v .put-body4 .ensures .0) (v .put-body4 .ensures .1) refl, omega (arith, l, v .put-body4 .ensures .1))
+    rw (g .before .enum-told6 .given .1) (node-laid domain _ _ (g .get4 .ensures) _ _ _ _ _ _ tt (v .put-body4 .ensures .0) (v .put-body4 .ensures .1) refl, omega (arith, l, v .put-body4 .ensures .1))
 
 returns-7 : tie.Need-returns-7
 unfolding formIn

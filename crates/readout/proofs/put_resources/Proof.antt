@@ -1,10 +1,11 @@
 -- `put_resources` meets its contract. The invariant: the calls still to come, laid over what there is, give the answer.
 use mathlib.Core.Path.{_≡_, refl, ap, _∙_}
 use Prim.Native.Nat.{_-_, _+_, _*_, _≤_}
+use mathlib.Core.List.{[], _∷_}
 use native.Mathlib.Omega.{arith}
 use borrow.Author.Needs.{needs}
 use lib.ListN.{replicate}
-use Rattle.format.specs.Layout.{to, width}
+use Rattle.format.specs.Layout.{to, width, layWith}
 use Rattle.format.specs.Kind.{Resource, body}
 use Rattle.format.specs.Normal.{each}
 use Rattle.laws.specs.Offsets.{fieldsAt}
@@ -12,7 +13,7 @@ use Rattle.laws.proofs.Fields.{length-call}
 use Rattle.header.specs.Header.{meant}
 use Rattle.pptt.specs.declared.CacheHandle.{CacheHandle}
 use Rattle.readout.specs.Places.{ordinalAt}
-use Rattle.readout.proofs.Lists.{Coming, all-coming, laid-length, put-laid, low-resource, come-each, each-laid}
+use Rattle.readout.proofs.Lists.{Coming, all-coming, laid-length, put-laid, low-word, come-each, each-laid}
 use Rattle.readout.proofs.put_resources.Statement.{statement}
 use Rattle.readout.proofs.put_resources.Tie as tie
 
@@ -38,19 +39,19 @@ add-p c =
     omega arith
 
 loop-again : tie.Need-loop-again Inv-loop μ-loop
-unfolding body width
+unfolding body width layWith
 loop-again c =
     let v = c .before .before in
     let o = v .before .before in
     let r = o .before in
     let l = r .before in
     let i = l .before .loop .i in
-    let z : v .put-body .result ≡ 5 = v .put-body .ensures .1 ∙ length-call Resource _ in
+    let z : v .put-body .result ≡ 5 = v .put-body .ensures .1 ∙ length-call Resource (o .cache-ordinal .result .0 ∷ []) in
     let s : 20 + 4 * (i + 1) ≡ 20 + 4 * i + 4 = omega arith in
     let h = ap (λ (x : CacheHandle). x .0) (rw (r .resource .ensures) at (o .cache-ordinal .ensures)) in (
       omega arith,
       omega arith,
-      come-each _ (to 1) _ _ _ _ Resource (l .loop-test .taken) refl s (put-laid (v .put-body .ensures .0) (v .put-body .ensures .1) (low-resource _ _ h)) (l .before .loop .inv .2),
+      come-each _ (to 1) _ _ _ _ Resource (l .loop-test .taken) refl s (put-laid (v .put-body .ensures .0) (v .put-body .ensures .1) (rw (low-word _ _ h))) (l .before .loop .inv .2),
     )
 
 laid : tie.Need-same-length Inv-loop μ-loop

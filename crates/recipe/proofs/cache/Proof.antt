@@ -7,7 +7,7 @@ use Rattle.format.specs.Node.{Node}
 use Rattle.format.specs.Kind.{Cache}
 use Rattle.format.specs.Field.{badField}
 use Rattle.recipe.specs.Machine.{refers}
-use Rattle.recipe.proofs.Numbers.{passes, fails}
+use Rattle.laws.proofs.Fields.{failed, passed}
 use Rattle.recipe.proofs.Steps.{cache-turn}
 use Rattle.recipe.proofs.cache.Statement.{statement}
 use Rattle.recipe.proofs.cache.Tie as tie
@@ -25,7 +25,7 @@ returns-2 c rs found t ns p e b =
     let a = g .before .before .args in
     let v : g .from-body .result .«next_level» .0 ≡ refers Cache (a .bytes .now) = ap (λ (n : Node). at (n .values) 1) (g .from-body .ensures) in
     sym (cache-turn t ns (a .st) e rs b p (a .bytes .now) (a .found) _ (d .before .bad-field .ensures ∙ ap badField (g .from-body .ensures)) found
-    ∙ rw (eq-eqb _ _ (d .if1 .left), ← v, fails (c .before .is-cache-or-none .ensures) (c .if2 .taken)))
+    ∙ rw (eq-eqb _ _ (d .if1 .left), ← v, failed (c .before .is-cache-or-none .ensures) (c .if2 .taken)))
 
 returns-3 : tie.Need-returns-3
 returns-3 c rs found t ns p e b =
@@ -36,7 +36,7 @@ returns-3 c rs found t ns p e b =
     let v : g .from-body .result .«next_level» .0 ≡ refers Cache (a .bytes .now) = ap (λ (n : Node). at (n .values) 1) (g .from-body .ensures) in
     rw (c .grown .ensures)
     (sym (cache-turn t ns (a .st) e rs b p (a .bytes .now) (a .found) _ (d .before .bad-field .ensures ∙ ap badField (g .from-body .ensures)) found
-    ∙ rw (eq-eqb _ _ (d .if1 .left), ← v, passes (f .before .is-cache-or-none .ensures) (f .if2 .left))))
+    ∙ rw (eq-eqb _ _ (d .if1 .left), ← v, passed (f .before .is-cache-or-none .ensures) (f .if2 .left))))
 
 pub cache-spec : {M : Type 1} → statement M
 cache-spec =

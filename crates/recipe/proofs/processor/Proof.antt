@@ -1,7 +1,7 @@
 -- `processor` meets its contract: its parent is a processor, or none.
 use mathlib.Core.Path.{sym, _∙_}
 use borrow.Author.Needs.{needs}
-use Rattle.recipe.proofs.Numbers.{passes, fails}
+use Rattle.laws.proofs.Fields.{failed, passed}
 use Rattle.recipe.proofs.Steps.{processor-turn}
 use Rattle.recipe.proofs.processor.Statement.{statement}
 use Rattle.recipe.proofs.processor.Tie as tie
@@ -10,14 +10,14 @@ returns : tie.Need-returns
 returns c rs found t ns p e b =
     let g = c .before .before .before in
     let a = g .before .before .args in
-    sym (processor-turn t ns (a .st) e rs b p (a .bytes .now) (a .found) found ∙ rw (← g .parent-in .ensures, fails (c .before .is-processor-or-none .ensures) (c .if1 .taken)))
+    sym (processor-turn t ns (a .st) e rs b p (a .bytes .now) (a .found) found ∙ rw (← g .parent-in .ensures, failed (c .before .is-processor-or-none .ensures) (c .if1 .taken)))
 
 returns-2 : tie.Need-returns-2
 returns-2 c rs found t ns p e b =
     let d = c .before in
     let g = d .before .before .before in
     let a = g .before .before .args in
-    rw (c .grown .ensures) (sym (processor-turn t ns (a .st) e rs b p (a .bytes .now) (a .found) found ∙ rw (← g .parent-in .ensures, passes (d .before .is-processor-or-none .ensures) (d .if1 .left))))
+    rw (c .grown .ensures) (sym (processor-turn t ns (a .st) e rs b p (a .bytes .now) (a .found) found ∙ rw (← g .parent-in .ensures, passed (d .before .is-processor-or-none .ensures) (d .if1 .left))))
 
 pub processor-spec : {M : Type 1} → statement M
 processor-spec =

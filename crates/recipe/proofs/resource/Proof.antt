@@ -7,7 +7,7 @@ use Rattle.format.specs.Layout.{fields}
 use Rattle.format.specs.Kind.{Resource, body}
 use Rattle.format.specs.Recipe.{step}
 use Rattle.recipe.specs.Machine.{refers}
-use Rattle.recipe.proofs.Numbers.{passes, fails}
+use Rattle.laws.proofs.Fields.{failed, passed}
 use Rattle.recipe.proofs.Steps.{turn-judged, stray-resource, resource-turn}
 use Rattle.recipe.proofs.resource.Statement.{statement}
 use Rattle.recipe.proofs.resource.Tie as tie
@@ -24,7 +24,7 @@ returns-2 c rs found t ns p e b =
     let n = g .before .before in
     let a = n .before .before .before .args in
     let v : g .from-body .result .cache .0 ≡ refers Resource (a .bytes .now) = ap (λ vs. at vs 0) (g .from-body .ensures) in
-    sym (resource-turn t (a .st) p (a .bytes .now) _ rs (a .found) found ns e (n .newest .given .1) b ∙ rw (← v, fails (c .before .is-cache .ensures) (c .if1 .taken)))
+    sym (resource-turn t (a .st) p (a .bytes .now) _ rs (a .found) found ns e (n .newest .given .1) b ∙ rw (← v, failed (c .before .is-cache .ensures) (c .if1 .taken)))
 
 returns-3 : tie.Need-returns-3
 returns-3 c rs found t ns p e b =
@@ -34,7 +34,7 @@ returns-3 c rs found t ns p e b =
     let a = n .before .before .before .args in
     let v : g .from-body .result .cache .0 ≡ refers Resource (a .bytes .now) = ap (λ vs. at vs 0) (g .from-body .ensures) in
     sym (resource-turn t (a .st) p (a .bytes .now) _ rs (a .found) found ns e (n .newest .given .1) b
-    ∙ rw (← v, passes (d .before .is-cache .ensures) (d .if1 .left), le-leb _ _ (c .if2 .taken)))
+    ∙ rw (← v, passed (d .before .is-cache .ensures) (d .if1 .left), le-leb _ _ (c .if2 .taken)))
 
 returns-4 : tie.Need-returns-4
 returns-4 c rs found t ns p e b =
@@ -46,7 +46,7 @@ returns-4 c rs found t ns p e b =
     let v : g .from-body .result .cache .0 ≡ refers Resource (a .bytes .now) = ap (λ vs. at vs 0) (g .from-body .ensures) in
     rw (c .grown .ensures)
     (sym (resource-turn t (a .st) p (a .bytes .now) _ rs (a .found) found ns e (n .newest .given .1) b
-    ∙ rw (← v, passes (d .before .is-cache .ensures) (d .if1 .left), lt-leb _ _ (f .if2 .left))))
+    ∙ rw (← v, passed (d .before .is-cache .ensures) (d .if1 .left), lt-leb _ _ (f .if2 .left))))
 
 pub resource-spec : {M : Type 1} → statement M
 resource-spec =

@@ -1,7 +1,7 @@
 -- `SmbiosHandle::from_body` meets its contract: the one field stands at the start.
 use borrow.Author.Needs.{needs}
 use Rattle.format.specs.Kind.{Handle, body}
-use Rattle.hmat.proofs.Bodies.{fields-now}
+use Rattle.laws.proofs.Fields.{fields-now}
 use Rattle.hmat.proofs.SmbiosHandle.from_body.Statement.{statement}
 use Rattle.hmat.proofs.SmbiosHandle.from_body.Tie as tie
 

@@ -3,7 +3,7 @@ use borrow.Author.Needs.{needs}
 use borrow.Author.Tests.{le-leb, lt-leb}
 use Rattle.format.specs.Row.{column}
 use Rattle.laws.proofs.Tests.{both-false}
-use Rattle.hmat.proofs.Fixed.{above, within}
+use Rattle.laws.proofs.Fields.{above, within}
 use Rattle.hmat.proofs.SystemLocality.fits.Statement.{statement}
 use Rattle.hmat.proofs.SystemLocality.fits.Tie as tie
 

@@ -1,0 +1,67 @@
+-- The examples hold by computation.
+use mathlib.Core.Path.{refl}
+use Rattle.format.specs.Bytes.{le, value, part, over, sum, same}
+use Rattle.format.specs.Layout.{width, layWith, fieldsWith, fixedOk, refsGood}
+use Rattle.format.specs.Form.{layout, cacheAttributes, matrixFlags, sideAttributes, ranges}
+use Rattle.format.specs.Row.{column, matches, rowOf, formIn}
+use Rattle.format.specs.Kind.{kindOf, body}
+use Rattle.format.specs.Node.{bytes, nodeAt, sizes, starts, atPlace, atOrdinal, placeOf, ordinalOf}
+use Rattle.format.specs.Recipe.{cutAs, cut, resource, handle, setting, unset, step, fault, run, headed, meaning}
+use Rattle.format.specs.Build.{records, header, summed, tableFrom, build, table, written, built}
+use Rattle.format.specs.Normal.{each, eachSet, settings, calls, callsOf, recipeOf, normal}
+use Rattle.format.specs.Read.{headFault, judgeHead, framed, frames, sound, recordFault, walk, walked, accept, shown, listIn, fieldsOf, partOf, read, readPart}
+use Rattle.format.specs.Out.{nodesFrom, outOf, meaningOf, readOut, recipe, outWritten}
+use Rattle.format.specs.Listing.{digits}
+use Rattle.text.specs.Text as shown
+use Rattle.talk.specs.Words.{spaceIn, callIn}
+use Rattle.talk.specs.Numbers.{stepTo, numberFrom, numberIn}
+use Rattle.talk.specs.Hex.{valueOf, allHex, pairOf, pairs, dataIn, allAre}
+use Rattle.answers.specs.Lines.{refusal, success, told, carriedOut, content, ending, found, seen, writing, asking, answerTo}
+use Rattle.answers.specs.Examples.{Examples}
+
+pub examples : Examples
+unfolding le value part over sum same width layWith fieldsWith fixedOk refsGood layout cacheAttributes matrixFlags sideAttributes ranges column matches rowOf formIn kindOf body bytes nodeAt sizes starts atPlace atOrdinal placeOf ordinalOf cutAs cut resource handle setting unset step fault run headed meaning records header summed tableFrom build table written built each eachSet settings calls callsOf recipeOf normal headFault judgeHead framed frames sound recordFault walk walked accept shown listIn fieldsOf partOf read readPart nodesFrom outOf meaningOf readOut recipe outWritten digits shown.refusedWords shown.glyph shown.pairs shown.hexed shown.others shown.listed spaceIn callIn stepTo numberFrom numberIn valueOf allHex pairOf pairs dataIn allAre refusal success told carriedOut content ending found seen writing asking answerTo
+examples =
+    record {
+      ok-build = refl;
+      ok-out = refl;
+      refused-1 = refl;
+      refused-2 = refl;
+      refused-3 = refl;
+      refused-4 = refl;
+      refused-5 = refl;
+      refused-6 = refl;
+      refused-7 = refl;
+      refused-8 = refl;
+      refused-9 = refl;
+      refused-20 = refl;
+      refused-21 = refl;
+      refused-22 = refl;
+      refused-23 = refl;
+      refused-24 = refl;
+      refused-25 = refl;
+      refused-26 = refl;
+      refused-27 = refl;
+      refused-28 = refl;
+      refused-29 = refl;
+      refused-30 = refl;
+      refused-31 = refl;
+      row-0 = refl;
+      row-1 = refl;
+      row-2 = refl;
+      row-3 = refl;
+      row-3-pci = refl;
+      row-4 = refl;
+      row-5 = refl;
+      row-6 = refl;
+      row-7 = refl;
+      row-unknown = refl;
+      mask-over = refl;
+      no-data = refl;
+      no-line = refl;
+      number-over = refl;
+      odd = refl;
+      upper = refl;
+      words = refl;
+      zeros = refl;
+    }
