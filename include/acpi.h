@@ -5,6 +5,8 @@
  *
  * A caller owes what C cannot say: each pointer has as many elements as its length says (with length 0 it may be any
  * pointer but NULL), what is written to overlaps nothing else that is lent, and nobody else writes during a call.
+ *
+ * A call allocates nothing; of a long PPTT it keeps up to 64 KB on the stack.
  */
 #ifndef ISPALMUTZU_ACPI_H
 #define ISPALMUTZU_ACPI_H

@@ -1,4 +1,4 @@
-//! The recipes that are measured: two sockets with 64 cores each, an SRAT of 20 records, a matrix with every value set.
+//! The recipes that are measured: sockets with 64 cores each, references that jump about, an SRAT of 20 records, a matrix with every value set.
 
 fn head(table: u8) -> Vec<u8> {
     let mut r = vec![1, table];
@@ -34,12 +34,12 @@ fn processor(r: &mut Vec<u8>, flags: u64, parent: u64, id: u64, caches: &[u64]) 
     }
 }
 
-/// Two sockets, an L3 each, 64 cores each with so many caches of its own: 0, 1 (an L2) or 3 (an L2 and two L1).
-fn pptt(private: usize) -> Vec<u8> {
+/// Sockets with an L3 and 64 cores each; a core has so many caches of its own: 0, 1 (an L2) or 3 (an L2 and two L1).
+fn pptt(sockets: usize, private: usize) -> Vec<u8> {
     let mut r = head(0);
     let mut nodes = 0;
     let mut cores = 0;
-    for _socket in 0..2 {
+    for _ in 0..sockets {
         cache(&mut r, 0, 32 << 20, 16, 0x0A);
         let l3 = nodes + 1;
         processor(&mut r, 0x11, 0, 0, &[l3]);
@@ -58,6 +58,28 @@ fn pptt(private: usize) -> Vec<u8> {
             processor(&mut r, 0x0A, socket, cores, named);
             nodes += 1;
             cores += 1;
+        }
+    }
+    r
+}
+
+/// Caches and processors in turn: a cache names an earlier cache, a processor an earlier processor and two caches, any of them.
+fn jumps(nodes: u64) -> Vec<u8> {
+    let mut r = head(0);
+    let mut state = 1u64;
+    let mut random = |n: u64| {
+        state = state.wrapping_mul(6364136223846793005).wrapping_add(1442695040888963407);
+        (state >> 33) % n
+    };
+    for k in 1..=nodes {
+        // caches have odd ordinals, processors even ones
+        if k % 2 == 1 {
+            let next = if k == 1 { 0 } else { 2 * random(k / 2) + 1 };
+            cache(&mut r, next, 1 << 15, 8, 0x0A);
+        } else {
+            let parent = if k == 2 { 0 } else { 2 * random(k / 2 - 1) + 2 };
+            let named = [2 * random(k / 2) + 1, 2 * random(k / 2) + 1];
+            processor(&mut r, 0x0A, parent, k, &named);
         }
     }
     r
@@ -106,9 +128,13 @@ pub fn is_oblong(recipe: &[u8]) -> bool {
 
 pub fn recipe(shape: &str) -> Vec<u8> {
     match shape {
-        "pptt-132" => pptt(0),
-        "pptt-260" => pptt(1),
-        "pptt-516" => pptt(3),
+        "pptt-132" => pptt(2, 0),
+        "pptt-260" => pptt(2, 1),
+        "pptt-516" => pptt(2, 3),
+        "pptt-4026" => pptt(61, 0),
+        "pptt-4128" => pptt(16, 3),
+        "jump-132" => jumps(132),
+        "jump-4000" => jumps(4000),
         "srat-20" => srat(),
         "hmat-2x3" => hmat(2, 3),
         "hmat-16x16" => hmat(16, 16),

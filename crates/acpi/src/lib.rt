@@ -95,7 +95,7 @@ fn put_record(s: Shown, at: usize, len: usize, answer: &mut [u64])
         at as u64,
         len as u64,
     ];
-    numbers::copy(answer, 0, &front);
+    field::copy_u64(answer, 0, &front);
     numbers::put_fields(node, answer, FIELDS_AT);
 }
 

@@ -11,7 +11,7 @@ use Rattle.format.specs.Build.{records, header, summed, tableFrom, build, table
 use Rattle.format.specs.Normal.{each, eachSet, settings, calls, callsOf, recipeOf, normal}
 use Rattle.format.specs.Read.{headFault, judgeHead, framed, frames, sound, recordFault, walk, walked, accept, shown, listIn, fieldsOf, partOf, read, readPart}
 use Rattle.format.specs.Out.{nodesFrom, outOf, meaningOf, readOut, recipe, outWritten}
-use Rattle.format.specs.Listing.{digits}
+use Rattle.format.specs.Listing.{digits, refusedWords}
 use Rattle.text.specs.Text as shown
 use Rattle.talk.specs.Words.{spaceIn, callIn}
 use Rattle.talk.specs.Numbers.{stepTo, numberFrom, numberIn}
@@ -20,7 +20,7 @@ use Rattle.answers.specs.Lines.{refusal, success, told, carriedOut, cont
 use Rattle.answers.specs.Examples.{Examples}
 
 pub examples : Examples
-unfolding le value part over sum same width layWith fieldsWith fixedOk refsGood layout cacheAttributes matrixFlags sideAttributes ranges column matches rowOf formIn kindOf body bytes nodeAt sizes starts atPlace atOrdinal placeOf ordinalOf cutAs cut resource handle setting unset step fault run headed meaning records header summed tableFrom build table written built each eachSet settings calls callsOf recipeOf normal headFault judgeHead framed frames sound recordFault walk walked accept shown listIn fieldsOf partOf read readPart nodesFrom outOf meaningOf readOut recipe outWritten digits shown.refusedWords shown.glyph shown.pairs shown.hexed shown.others shown.listed spaceIn callIn stepTo numberFrom numberIn valueOf allHex pairOf pairs dataIn allAre refusal success told carriedOut content ending found seen writing asking answerTo
+unfolding le value part over sum same width layWith fieldsWith fixedOk refsGood layout cacheAttributes matrixFlags sideAttributes ranges column matches rowOf formIn kindOf body bytes nodeAt sizes starts atPlace atOrdinal placeOf ordinalOf cutAs cut resource handle setting unset step fault run headed meaning records header summed tableFrom build table written built each eachSet settings calls callsOf recipeOf normal headFault judgeHead framed frames sound recordFault walk walked accept shown listIn fieldsOf partOf read readPart nodesFrom outOf meaningOf readOut recipe outWritten digits refusedWords shown.glyph shown.pairs shown.hexed shown.others shown.listed spaceIn callIn stepTo numberFrom numberIn valueOf allHex pairOf pairs dataIn allAre refusal success told carriedOut content ending found seen writing asking answerTo
 examples =
     record {
       ok-build = refl;

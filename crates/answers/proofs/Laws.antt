@@ -38,7 +38,7 @@ use Rattle.talk.specs.declared.Number.the-variants as number
 use Rattle.talk.specs.declared.Data.the-variants as bytes
 use Rattle.talk.specs.Numbers.{stepTo, onto, numberFrom, numberIn}
 use Rattle.talk.specs.Hex.{pairs, allHex, dataIn, allAre}
-use Rattle.answers.specs.Lines.{text, keptIf, success, told, toldBy, carriedOut, content}
+use Rattle.answers.specs.Lines.{text, keptIf, fill, success, told, toldBy, carriedOut, content}
 
 -- ---- bytes laid down in front
 
@@ -108,10 +108,10 @@ unhexed w buffer after bs k d e f =
 
 -- ---- building and reading out
 
-filled : (buffer : List ℕ) → over buffer 0 (replicate (length buffer) 165) ≡ replicate (length buffer) 165
-filled buffer = over-all buffer (replicate (length buffer) 165) (length-replicate (length buffer) 165)
+filled : (buffer : List ℕ) → over buffer 0 (replicate (length buffer) fill) ≡ replicate (length buffer) fill
+filled buffer = over-all buffer (replicate (length buffer) fill) (length-replicate (length buffer) fill)
 
-pub succeeds : (n : ℕ) (out first rest : List ℕ) (kept : Bool) → first ≡ take n out → rest ≡ drop n out → kept ≡ allAre 165 rest
+pub succeeds : (n : ℕ) (out first rest : List ℕ) (kept : Bool) → first ≡ take n out → rest ≡ drop n out → kept ≡ allAre fill rest
     → text "ok" ++ (spaced n ++ (text " " ++ (hexed first ++ keptIf kept))) ≡ success n out
 unfolding success
 succeeds n out first rest kept f r k = rw (k, r, f)
@@ -146,14 +146,14 @@ told-out (out.Refused (refusal.BadRef p)) buffer = refl
 told-out (out.Refused (refusal.NoRecord n)) buffer = refl
 
 -- buffer: as it was lent, f: filled, after: after the call
-module _ (bs buffer f after : List ℕ) (n p : ℕ) (e : f ≡ over buffer 0 (replicate (length buffer) 165)) where
+module _ (bs buffer f after : List ℕ) (n p : ℕ) (e : f ≡ over buffer 0 (replicate (length buffer) fill)) where
   pub builds : (b : Built) → making.shown b ≡ build bs (length f) → after ≡ built bs f → n ≡ making.numberIn (making.shown b) → p ≡ making.placeOf (making.shown b)
-      → toldBy n p after ≡ carriedOut true bs (replicate (length buffer) 165)
+      → toldBy n p after ≡ carriedOut true bs (replicate (length buffer) fill)
   unfolding carriedOut
   builds b is w x y = rw (x, y, told-build b after, is, w, e, filled)
 
   pub reads-out : (r : ReadOut) → reading.shown r ≡ readOut bs (length f) → after ≡ outWritten bs f → n ≡ reading.numberOf (reading.shown r) → p ≡ reading.placeOf (reading.shown r)
-      → toldBy n p after ≡ carriedOut false bs (replicate (length buffer) 165)
+      → toldBy n p after ≡ carriedOut false bs (replicate (length buffer) fill)
   unfolding carriedOut
   reads-out r is w x y = rw (x, y, told-out r after, is, w, e, filled)
 

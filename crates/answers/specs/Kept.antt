@@ -9,7 +9,7 @@ use Rattle.format.specs.Build.{build, table}
 use Rattle.format.specs.Out.{readOut, recipe}
 use Rattle.format.specs.Listing.{spaced}
 use Rattle.text.specs.Text.{hexed}
-use Rattle.answers.specs.Lines.{text, keptIf, refusal, carriedOut}
+use Rattle.answers.specs.Lines.{text, keptIf, refusal, fill, carriedOut}
 
 -- the line of an answer and of what was written, all else kept
 unfoldable pub keptOf : Answer ℕ → List ℕ → List ℕ
@@ -18,5 +18,5 @@ keptOf (given n) bs = text "ok" ++ (spaced n ++ (text " " ++ (hexed bs ++ keptIf
 
 -- of every recipe and table, in every room
 pub record Kept : Type 0 where
-  pub build : (r : List ℕ) (room : ℕ) → carriedOut true r (replicate room 165) ≡ keptOf (build r room) (table r)
-  pub out : (b : List ℕ) (room : ℕ) → carriedOut false b (replicate room 165) ≡ keptOf (readOut b room) (recipe b)
+  pub build : (r : List ℕ) (room : ℕ) → carriedOut true r (replicate room fill) ≡ keptOf (build r room) (table r)
+  pub out : (b : List ℕ) (room : ℕ) → carriedOut false b (replicate room fill) ≡ keptOf (readOut b room) (recipe b)

@@ -13,8 +13,8 @@ use Rattle.format.specs.Row.{Row, rowNumber}
 use Rattle.format.specs.Build.{build, built}
 use Rattle.format.specs.Out.{readOut, outWritten, every}
 use Rattle.format.specs.Read.{Reading, reading, read, readPart}
-use Rattle.format.specs.Listing.{digits, spaced}
-use Rattle.text.specs.Text.{refusedWords, hexed, listed}
+use Rattle.format.specs.Listing.{digits, spaced, refusedWords}
+use Rattle.text.specs.Text.{hexed, listed}
 use Rattle.talk.specs.declared.Call.{Call}
 use Rattle.talk.specs.declared.Call.the-variants as call
 use Rattle.talk.specs.declared.Number.{Number}
@@ -49,20 +49,24 @@ keptIf false = text " changed\n"
 unfoldable pub refusal : ℕ → ℕ → Bool → List ℕ
 refusal n p kept = refusedWords n p ++ keptIf kept
 
--- ---- building and reading out: out is the lent buffer, whose bytes are all 165, 0xa5, before the call
+-- ---- building and reading out: out is the lent buffer
+
+-- each of its bytes before the call: 0xa5
+abbrev pub fill : ℕ
+fill = 165
 
 -- ok LENGTH HEX kept: n bytes of out, and all behind them as before
 unfoldable pub success : ℕ → List ℕ → List ℕ
-success n out = text "ok" ++ (spaced n ++ (text " " ++ (hexed (take n out) ++ keptIf (allAre 165 (drop n out)))))
+success n out = text "ok" ++ (spaced n ++ (text " " ++ (hexed (take n out) ++ keptIf (allAre fill (drop n out)))))
 
 -- of the answer of a call, and of the buffer after it: a refusal leaves all of it as before
 unfoldable pub told : Answer ℕ → List ℕ → List ℕ
-told (refused n p) out = refusal n p (allAre 165 out)
+told (refused n p) out = refusal n p (allAre fill out)
 told (given n) out = success n out
 
 -- the same of an answer's number, 0 where a length is given, and of its place or length
 unfoldable pub toldBy : ℕ → ℕ → List ℕ → List ℕ
-toldBy n p out = pick (eqb n 0) (success p out) (refusal n p (allAre 165 out))
+toldBy n p out = pick (eqb n 0) (success p out) (refusal n p (allAre fill out))
 
 -- the table of a recipe, or the recipe of a table
 unfoldable pub carriedOut : Bool → List ℕ → List ℕ → List ℕ
@@ -71,7 +75,7 @@ carriedOut false b out = told (readOut b (length out)) (outWritten b out)
 
 -- the buffer: room bytes, at most most
 abbrev pub lent : ℕ → ℕ → List ℕ
-lent most room = replicate (min room most) 165
+lent most room = replicate (min room most) fill
 
 -- ---- reading
 

@@ -4,7 +4,7 @@ ghost use lib.ListN.{length, replicate};
 ghost use Rattle.format.specs.Read as format;
 ghost use Rattle.text.specs.Text.{laid, listed};
 ghost use Rattle.read.specs.Answers.{rowIn, fieldsIn, shownAs};
-ghost use Rattle.answers.specs.Lines.{what, tooLong, keptIf, refusal, success, toldBy, carriedOut, lent as lentFor, content, ending, found, seen, writing, asking, answerTo};
+ghost use Rattle.answers.specs.Lines.{what, tooLong, keptIf, refusal, fill, success, toldBy, carriedOut, lent as lentFor, content, ending, found, seen, writing, asking, answerTo};
 use read::Node;
 use read::Reply;
 use read::Shown;
@@ -72,7 +72,7 @@ fn tell(number: u64, place: usize, out: &[u8], text: &mut [u8]) -> usize
 
 // The call on a buffer that is lent: build, or reading out.
 fn carry_out(builds: bool, bytes: &[u8], out: &mut [u8], text: &mut [u8]) -> usize
-    ensures { λ r. ⌜ (r, now (text .exit)) ≡ laid (now (text .entry)) 0 (carriedOut builds (now (bytes .entry)) (replicate (length (now (out .entry))) 165)) ⌝ }
+    ensures { λ r. ⌜ (r, now (text .exit)) ≡ laid (now (text .entry)) 0 (carriedOut builds (now (bytes .entry)) (replicate (length (now (out .entry))) fill)) ⌝ }
 {
     let len = out.len();
     field::fill(out, 0, len, FILL);

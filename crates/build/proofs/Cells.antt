@@ -54,20 +54,20 @@ module _ (r : List ℕ) (p n : ℕ) (c : declared.Cell) (e : cellFields c ≡ fi
 -- ---- in a run of cells
 
 -- what it relies on
-pub held-at : (r : List ℕ) (u : named.Table) (s s′ : State) (out out′ : List ℕ) → u ≡ Hmat → (y : Ready r (meant u) s out) → Goes r hmat s out s′ out′ → Held (y .start) r hmat (y .meant) s′ out′
-held-at r u s s′ out out′ e y g = g (y .start) (y .meant) (rw e at (y .holds))
+pub held-at : (r : List ℕ) (u : named.Table) (s s′ : State) (out out′ : List ℕ) → u ≡ Hmat → (ms : List ℕ) (y : Ready r (meant u) s out ms) → Goes r hmat s out s′ out′ → Held (y .start) r hmat (y .meant) s′ out′ ms
+held-at r u s s′ out out′ e ms y g = g (y .start) (y .meant) ms (rw e at (y .holds))
 
 shift : (a x : ℕ) → (a + x) % 256 ≡ (a % 256 + x) % 256
 shift a x = omega arith
 
-module _ (xs r : List ℕ) (m : Meaning) (s : State) (out : List ℕ) (h : Held xs r hmat m s out) (l : s .at < length r) (e : getD r (s .at) 0 ≡ 52) where
+module _ (xs r : List ℕ) (m : Meaning) (s : State) (out ms : List ℕ) (h : Held xs r hmat m s out ms) (l : s .at < length r) (e : getD r (s .at) 0 ≡ 52) where
   is-cell : kindOf hmat (getD r (s .at) 0) ≡ some Cell
   unfolding kindOf
   is-cell = rw e
 
   pub cell-whole : s .at + 5 ≤ length r
   unfolding width body
-  cell-whole = omega (arith, whole xs r hmat m s out h Cell l is-cell)
+  cell-whole = omega (arith, whole xs r hmat m s out ms h Cell l is-cell)
 
   -- the place of the cell
   abbrev pub place : ℕ
@@ -90,7 +90,7 @@ module _ (xs r : List ℕ) (m : Meaning) (s : State) (out : List ℕ) (h : Held 
 
   pub cell-in : place + 2 ≤ length out
   unfolding changeOf
-  cell-in = omega (arith, from-is, in-buffer xs r hmat m s out h Cell l is-cell)
+  cell-in = omega (arith, from-is, in-buffer xs r hmat m s out ms h Cell l is-cell)
 
   wrote-is : wrote Cell s vs out ≡ over out place (le 2 (value (part r (s .at + 3) 2)))
   unfolding wrote
@@ -98,7 +98,7 @@ module _ (xs r : List ℕ) (m : Meaning) (s : State) (out : List ℕ) (h : Held 
 
   pub cell-goes : (out′ : List ℕ) (u : ℕ) → out′ ≡ over out place (le 2 (value (part r (s .at + 3) 2)))
       → u ≡ (s .sum .value + checkOf (sum (part out place 2)) + sum (le 2 (value (part r (s .at + 3) 2)))) % 256
-      → Held xs r hmat m (record { at = s .at + 5; end = s .end; latest = s .latest; sum = record { value = u }; marks = s .marks }) out′
+      → Held xs r hmat m (record { at = s .at + 5; end = s .end; latest = s .latest; sum = record { value = u } }) out′ ms
   unfolding changeOf width body
   cell-goes out′ u eo eu =
       let cs = le 2 (value (part r (s .at + 3) 2)) in
@@ -107,5 +107,5 @@ module _ (xs r : List ℕ) (m : Meaning) (s : State) (out : List ℕ) (h : Held 
       let n : part o place 2 ≡ cs = rw (length-le 2 (value (part r (s .at + 3) 2))) at (part-over out place cs (rw length-le cell-in)) in
       let z : u ≡ (w + sum (part o place 2) + sum (part o (s .end) 0) + checkOf (sum (le 4 (s .end))) + sum (le 4 (s .end + 0))) % 256 =
       eu ∙ shift (s .sum .value + checkOf (sum (part out place 2))) (sum cs) ∙ rw n (sum-still w (sum cs) o (s .end) 0 refl) in
-      rw (eo, ← wrote-is) (goes xs r hmat m s out h Cell l is-cell (record { at = s .at + 5; end = s .end; latest = s .latest; sum = record { value = u }; marks = s .marks }) w
-      (λ es f p q b. (p, q, b)) (omega arith) (sym (add-zero (s .end))) refl (rw (said .0, said .1)) (rw (wrote-is, said .0, said .1) z))
+      rw (eo, ← wrote-is) (goes xs r hmat m s out ms h Cell l is-cell (record { at = s .at + 5; end = s .end; latest = s .latest; sum = record { value = u } }) w
+      (omega arith) (sym (add-zero (s .end))) refl (rw (said .0, said .1)) (rw (wrote-is, said .0, said .1) z))

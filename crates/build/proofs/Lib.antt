@@ -1,10 +1,12 @@
 pub mod Walks
 pub mod Agrees
 pub mod Sums
+pub mod Changes
 pub mod Headers
 pub mod Turns
 pub mod Names
 pub mod Plains
+pub mod Windows
 pub mod Places
 pub mod Whole
 pub mod Steps

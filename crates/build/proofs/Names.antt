@@ -1,4 +1,4 @@
--- A reference that is good names a record before its own: kind by kind, and so the marks stay right.
+-- Only a PPTT has references, and a record leaves the nodes before the newest, or those before the newest before: kind by kind, and so the marks stay right.
 use mathlib.Core.Path.{_≡_, refl}
 use Prim.Native.Nat.{ℕ, _≤_}
 use mathlib.Core.List.{List}
@@ -78,50 +78,3 @@ module _ (P : List Node → Type 0) where
   older-added Cell vs ns p h j = setting-older _ _ _ (view ns) p j
   older-added Side vs ns p h j = h
   older-added Handle vs ns p h j = handle-older vs (view ns) p j
-
--- ---- a good reference is below its record
-
-module _ (t : Table) (es : List Node) (vs : List ℕ) where
-  good-below : (v y : ℕ) → atOrdinal (starts t es) v y ≡ true → v ≤ length es
-  good-below v y h = rw (length-starts t es) at (named-below (starts t es) v y h)
-
-  or-none-below : (v y : ℕ) (x : Bool) → eqb v 0 ≡ x → pick x true (atOrdinal (starts t es) v y) ≡ true → v ≤ length es
-  or-none-below v y true q h = let z : v ≡ 0 = eqb-true v 0 q in omega arith
-  or-none-below v y false q h = good-below v y h
-
-  processor-below : refsGood (atOrdinal (starts t es)) (body Processor) vs ≡ true → at vs 1 ≤ length es
-  unfolding body refsGood
-  processor-below h = or-none-below (at vs 1) 0 (eqb (at vs 1) 0) refl (both-true _ true (rw (← second vs) at h) .0)
-
-  cache-below : refsGood (atOrdinal (starts t es)) (body Cache) vs ≡ true → at vs 1 ≤ length es
-  unfolding body refsGood
-  cache-below h = or-none-below (at vs 1) 1 (eqb (at vs 1) 0) refl (both-true _ true (rw (← second vs) at h) .0)
-
-  resource-below : refsGood (atOrdinal (starts t es)) (body Resource) vs ≡ true → at vs 0 ≤ length es
-  unfolding body refsGood
-  resource-below h = good-below (at vs 0) 1 (both-true _ true h .0)
-
-joined-below : (t : Table) (vs : List ℕ) {ns : List Node} {x : _} → View ns x → resource vs x .placed ≡ true
-    → refsGood (atOrdinal (starts t (resource vs x .earlier))) (body Resource) vs ≡ true → at vs 0 ≤ length (drop 1 (resource vs x .nodes))
-unfolding resource
-joined-below t vs (seesProcessor {n} {us} {ns}) p h = resource-below t ns vs h
-joined-below t vs seesMatrix p h = never p
-joined-below t vs seesSide p h = never p
-joined-below t vs seesOther p h = never p
-
-pub refers-below : (t : Table) (k : Kind) (bs : List ℕ) (ns : List Node) → Passed t ns k (fields (body k) bs) → refers k bs ≤ length (drop 1 (added k (fields (body k) bs) ns))
-unfolding step
-refers-below t Processor bs ns p = processor-below t ns (fields (body Processor) bs) (p .refs)
-refers-below t Resource bs ns p = joined-below t (fields (body Resource) bs) (view ns) (p .place) (p .refs)
-refers-below t Cache bs ns p = cache-below t ns (fields (body Cache) bs) (p .refs)
-refers-below t Memory bs ns p = omega arith
-refers-below t Acpi bs ns p = omega arith
-refers-below t Pci bs ns p = omega arith
-refers-below t Rintc bs ns p = omega arith
-refers-below t Domain bs ns p = omega arith
-refers-below t Matrix bs ns p = omega arith
-refers-below t Initiator bs ns p = omega arith
-refers-below t Target bs ns p = omega arith
-refers-below t Cell bs ns p = omega arith
-refers-below t Side bs ns p = omega arith
-refers-below t Handle bs ns p = omega arith

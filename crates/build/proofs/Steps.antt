@@ -1,13 +1,16 @@
 -- A turn of the pass keeps what the buffer and the numbers hold: the start, one record, and the end.
 use mathlib.Core.Path.{_≡_, refl, sym, ap, _∙_}
-use Prim.Native.Nat.{ℕ, suc, _+_, _%_, _≤_, _<_}
+use Prim.Native.Nat.{ℕ, suc, _+_, _-_, _%_, _≤_, _<_}
 use mathlib.Core.List.{List, [], _∷_, _++_, append-assoc, append-nil}
+use mathlib.Core.Bool.{Bool, true, false}
 use mathlib.Core.Option.{none, some}
 use native.Mathlib.Numerals.{add-one}
 use native.Mathlib.Omega.{arith}
 use native.Mathlib.Nat.{zero-add}
-use lib.ListN.{length, drop, getD, length-append, length-drop, drop-of-length-le}
-use Rattle.format.specs.Bytes.{Bytes, le, part, over, sum, given}
+use lib.ListN.{length, drop, getD, replicate, length-append, length-drop, drop-of-length-le}
+use lib.Dec.{eqb}
+use borrow.Author.Tests.{eqb-false}
+use Rattle.format.specs.Bytes.{Bytes, pick, at, le, part, over, sum, given}
 use Rattle.format.specs.Layout.{width, fields}
 use Rattle.format.specs.Table.{Table, pptt, front, limit}
 use Rattle.format.specs.Node.{Node, sizes}
@@ -17,23 +20,26 @@ use Rattle.format.specs.Build.{records, header, checkOf, summed, tableFrom, tab
 use Rattle.laws.proofs.Bytes.{bytes-drop, length-part, length-over, sum-append}
 use Rattle.laws.proofs.Lays.{Fit}
 use Rattle.laws.proofs.Heads.{length-records, length-header}
+use Rattle.laws.proofs.Links.{size-pos}
 use Rattle.laws.proofs.Good.{Good}
 use Rattle.laws.proofs.Grows.{passed, kindHome, grows}
 use Rattle.laws.proofs.Builds.{body-fits, kind-home}
 use Rattle.recipe.specs.Machine.{refers}
-use Rattle.marks.specs.declared.Marks.{Marks}
-use Rattle.marks.specs.Marks.{all, Every}
+use Rattle.marks.specs.declared.Mark.{Mark}
+use Rattle.marks.specs.Marks.{markIn, noted, Every}
+use Rattle.marks.proofs.Laws.{none-kept, noted-keeps}
+use Rattle.build.specs.declared.Latest.{Latest}
 use Rattle.build.specs.declared.State.{State}
 use Rattle.build.specs.declared.Change.{Change}
 use Rattle.build.specs.Write.{changeOf, wrote}
-use Rattle.build.specs.Held.{headIn, frontOf, Marked, Leading, Reaches, Keeps, Held, Ready, Small, Builds}
+use Rattle.build.specs.Held.{headIn, frontOf, Marked, Leads, Reaches, keptWith, Held, Ready, Small, Builds}
 use Rattle.header.proofs.Laws.{front-small, front-long}
 use Rattle.build.proofs.Headers.{header-any, finished}
 use Rattle.build.proofs.Sums.{part-laid, sum-front, sum-moves}
 use Rattle.build.proofs.Turns.{Laid, Turned, turned}
 use Rattle.build.proofs.Whole.{Turn, turn, turn-as, run-keeps, run-end, from-head}
-use Rattle.build.proofs.Walks.{reaches, reaches-older, marked-newer, marked-leads}
-use Rattle.build.proofs.Names.{names-pptt, older-added, refers-below}
+use Rattle.build.proofs.Walks.{reaches, reaches-older, marked-newer, marked-leads, newest-marked}
+use Rattle.build.proofs.Names.{names-pptt, older-added}
 
 pub length-front : (t : Table) (r : List ℕ) (n : ℕ) → 28 ≤ length r → length (frontOf t r n) ≡ front t
 length-front t r n h = length-header (headIn t r) 0 n 0 (length-part r 2 26 (omega arith))
@@ -45,6 +51,12 @@ older : (t : Table) (ns : List Node) → front t + sizes (drop 1 ns) ≤ front t
 unfolding sizes
 older t [] = omega arith
 older t (n ∷ ns) = omega arith
+
+-- no node is empty
+few-nodes : (ns : List Node) → length ns ≤ sizes ns
+unfolding sizes
+few-nodes [] = omega arith
+few-nodes (n ∷ ns) = omega (arith, few-nodes ns, size-pos (n .form))
 
 -- ---- one record
 
@@ -80,7 +92,7 @@ module _ {xs fs : List ℕ} {t : Table} {ns more : List Node} {c : Change} {out 
   sum-turned q k l m v w u d ev ew eu =
       sum-moves k l (sum (records t ns)) (sum (h .old)) (sum (h .new)) (sum (h .tail)) m (sum (records t more)) v w u ev (rw old-part at ew) (rw (new-part, tail-part q d) at eu) sums
 
-module _ (xs r : List ℕ) (t : Table) (m : Meaning) (s : State) (out : List ℕ) (h : Held xs r t m s out) where
+module _ (xs r : List ℕ) (t : Table) (m : Meaning) (s : State) (out ms : List ℕ) (h : Held xs r t m s out ms) where
   abbrev fs : List ℕ
   fs = frontOf t r (front t)
 
@@ -95,6 +107,7 @@ module _ (xs r : List ℕ) (t : Table) (m : Meaning) (s : State) (out : List ℕ
         place = h .place;
         counts = h .counts;
         few = h .few;
+        counted = h .counted;
         good = h .good;
         short = h .short;
         room = held-room;
@@ -146,32 +159,24 @@ module _ (xs r : List ℕ) (t : Table) (m : Meaning) (s : State) (out : List ℕ
     reached : (refers k (drop (suc (s .at)) r) ≡ 0 → ⊥) → Reaches out (h .nodes)
     reached z = reaches t xs fs (h .nodes) out (sym own ∙ names-pptt k (drop (suc (s .at)) r) z) (laid .long) held-room (h .good) (h .held)
 
-    pub leading : (refers k (drop (suc (s .at)) r) ≡ 0 → ⊥) → Leading out (s .marks)
-    leading z =
+    pub leading : (refers k (drop (suc (s .at)) r) ≡ 0 → ⊥) → Every (Leads out) ms
+    leading z i y =
         let e : t ≡ pptt = sym own ∙ names-pptt k (drop (suc (s .at)) r) z in
         let es = drop 1 (h .nodes) in
-        let d = reaches-older out (h .nodes) (reached z) in
         let l : front t + sizes es ≤ limit = omega (arith, older t (h .nodes), h .short) in
-        let l′ : 36 + sizes es ≤ limit = rw e at l in
-        (marked-leads out es (s .marks .parent) l′ d (h .parent), marked-leads out es (s .marks .cache) l′ d (h .cache), marked-leads out es (s .marks .back) l′ d (h .back))
+        marked-leads out es (markIn (at ms i)) (rw e at l) (reaches-older out (h .nodes) (reached z)) (rw e at (h .marked i y))
 
-    -- the marks of the state after it
-    module _ (ms : Marks) (kept : Keeps out (refers k (drop (suc (s .at)) r)) (s .marks) ms) where
-      marked : Every (Marked (drop 1 (added k vs (h .nodes)))) ms
-      marked =
-          let y = passed t (h .nodes) k vs (found .sound) in
-          let p = y .place in
-          kept (drop 1 (added k vs (h .nodes)))
-          (λ z. (refers-below t k (drop (suc (s .at)) r) (h .nodes) y, older-added (Reaches out) k vs (h .nodes) p (reached z) (reaches-older out (h .nodes) (reached z))))
-          (older-added (λ es. Marked es (s .marks .parent)) k vs (h .nodes) p (marked-newer (h .nodes) (s .marks .parent) (h .parent)) (h .parent))
-          (older-added (λ es. Marked es (s .marks .cache)) k vs (h .nodes) p (marked-newer (h .nodes) (s .marks .cache) (h .cache)) (h .cache))
-          (older-added (λ es. Marked es (s .marks .back)) k vs (h .nodes) p (marked-newer (h .nodes) (s .marks .back) (h .back)) (h .back))
+    -- what the marks were at, they are at after it
+    still : Every (Marked t (drop 1 (added k vs (h .nodes)))) ms
+    still i y =
+        let w = h .marked i y in
+        older-added (λ es. Marked t es (markIn (at ms i))) k vs (h .nodes) (passed t (h .nodes) k vs (found .sound) .place) (marked-newer t (h .nodes) (markIn (at ms i)) w) w
 
-    pub goes : (s′ : State) (w : ℕ) → Keeps out (refers k (drop (suc (s .at)) r)) (s .marks) (s′ .marks) → s′ .at ≡ suc (s .at) + width (body k) → s′ .end ≡ s .end + changeOf k s vs .more → s′ .latest ≡ changeOf k s vs .latest
+    pub goes : (s′ : State) (w : ℕ) → s′ .at ≡ suc (s .at) + width (body k) → s′ .end ≡ s .end + changeOf k s vs .more → s′ .latest ≡ changeOf k s vs .latest
         → w ≡ (s .sum .value + checkOf (sum (part out (changeOf k s vs .from) (changeOf k s vs .len)))) % 256
         → s′ .sum .value ≡ (w + sum (part (wrote k s vs out) (changeOf k s vs .from) (changeOf k s vs .len)) + sum (part (wrote k s vs out) (s .end) (changeOf k s vs .more)) + checkOf (sum (le 4 (s .end))) + sum (le 4 (s .end + changeOf k s vs .more))) % 256
-        → Held xs r t m s′ (wrote k s vs out)
-    goes s′ w keep ea ee el ew eu =
+        → Held xs r t m s′ (wrote k s vs out) ms
+    goes s′ w ea ee el ew eu =
         let d = laid .long in
         let b : s .end ≡ length fs + sizes (h .nodes) = omega (arith, h .ends) in
         record {
@@ -188,9 +193,8 @@ module _ (xs r : List ℕ) (t : Table) (m : Meaning) (s : State) (out : List ℕ
           counts = rw el (turns .counts);
           few = rw el (turns .few);
           held = turns .held;
-          parent = marked (s′ .marks) keep .0;
-          cache = marked (s′ .marks) keep .1;
-          back = marked (s′ .marks) keep .2;
+          counted = rw el (turns .counted);
+          marked = still;
           sums = sum-turned turns (h .held) more-room (s .end) (sum (header (headIn t r) 0 0 0)) (sum (le 4 (s .end))) (sum (le 4 (s .end + changeOf k s vs .more))) (s .sum .value) w (s′ .sum .value) b
               (h .sums ∙ ap (λ (n : ℕ). n % 256) (sum-front (headIn t r) (s .end) (records t (h .nodes)))) ew eu
               ∙ ap (λ (n : ℕ). n % 256) (rw ee (sym (sum-front (headIn t r) (s .end + changeOf k s vs .more) (records t (added k vs (h .nodes))))));
@@ -204,37 +208,91 @@ module _ (xs r : List ℕ) (t : Table) (m : Meaning) (s : State) (out : List ℕ
       body-is : bs ≡ drop (suc (s .at)) r
       body-is = eb ∙ ap (λ (n : ℕ). drop n r) (add-one (s .at))
 
-      pub leads-there : (refers k bs ≡ 0 → ⊥) → Leading out (s .marks)
+      pub leads-there : (refers k bs ≡ 0 → ⊥) → Every (Leads out) ms
       leads-there z = leading (λ e. z (ap (refers k) body-is ∙ e))
 
       pub in-limit : s .end + c .more ≤ limit
       in-limit = rw change-is short
 
-      pub stepped : (out′ : List ℕ) (s′ : State) (w : ℕ) → Keeps out (refers k bs) (s .marks) (s′ .marks) → out′ ≡ wrote k s (fields (body k) bs) out → s′ .at ≡ s .at + 1 + width (body k) → s′ .end ≡ s .end + c .more → s′ .latest ≡ c .latest
+      -- the bytes that change, and those that come, stand in the buffer
+      pub changing : c .from + c .len ≤ length out
+      changing = rw change-is in-buffer
+
+      pub coming : s .end + c .more ≤ length out
+      coming = rw (change-is, longer, h .held, length-over) (omega (arith, more-room, laid .long))
+
+      pub long-enough : width (body k) ≤ length bs
+      long-enough = rw (body-is, length-drop) (omega (arith, whole))
+
+      pub stepped : (out′ : List ℕ) (s′ : State) (w : ℕ) → out′ ≡ wrote k s (fields (body k) bs) out → s′ .at ≡ s .at + 1 + width (body k) → s′ .end ≡ s .end + c .more → s′ .latest ≡ c .latest
           → w ≡ (s .sum .value + checkOf (sum (part out (c .from) (c .len)))) % 256
           → s′ .sum .value ≡ (w + sum (part out′ (c .from) (c .len)) + sum (part out′ (s .end) (c .more)) + checkOf (sum (le 4 (s .end))) + sum (le 4 (s .end + c .more))) % 256
-          → Held xs r t m s′ out′
-      stepped out′ s′ w keep eo ea ee el ew eu =
+          → Held xs r t m s′ out′ ms
+      stepped out′ s′ w eo ea ee el ew eu =
           let o : out′ ≡ wrote k s vs out = eo ∙ ap (λ (l : List ℕ). wrote k s (fields (body k) l) out) (eb ∙ ap (λ (n : ℕ). drop n r) (add-one (s .at))) in
           let f = change-is in
-          rw o (goes s′ w (rw body-is at keep) (ea ∙ ap (λ (n : ℕ). n + width (body k)) (add-one (s .at))) (rw f at ee) (rw f at el) (rw f at ew) (rw (o, f) at eu))
+          rw o (goes s′ w (ea ∙ ap (λ (n : ℕ). n + width (body k)) (add-one (s .at))) (rw f at ee) (rw f at el) (rw f at ew) (rw (o, f) at eu))
 
 -- what a step may rely on
-module _ (r : List ℕ) (t : Table) (s : State) (out : List ℕ) (y : Ready r t s out) where
+module _ (r : List ℕ) (t : Table) (s : State) (out ms : List ℕ) (y : Ready r t s out ms) where
   pub small : Small s
   small =
       let h = y .holds in
       let l : front t + sizes (drop 1 (h .nodes)) ≤ front t + sizes (h .nodes) = older t (h .nodes) in
-      record { end = omega (arith, h .ends, h .short); place = omega (arith, h .place, h .short); few = h .few }
+      record { end = omega (arith, h .ends, h .short); place = omega (arith, h .place, h .short); few = h .few; nodes = omega (arith, h .counted, few-nodes (h .nodes), h .short) }
+
+-- ---- marks
+
+module _ (xs r : List ℕ) (t : Table) (m : Meaning) (s : State) (out ms : List ℕ) (h : Held xs r t m s out ms) where
+  -- other marks, as good
+  remarked : (ms′ : List ℕ) → Every (Marked t (drop 1 (h .nodes))) ms′ → Held xs r t m s out ms′
+  remarked ms′ good =
+      record {
+        bytes = h .bytes;
+        whole = h .whole;
+        space = h .space;
+        nodes = h .nodes;
+        good = h .good;
+        short = h .short;
+        since = h .since;
+        leads = h .leads;
+        ends = h .ends;
+        place = h .place;
+        counts = h .counts;
+        few = h .few;
+        held = h .held;
+        counted = h .counted;
+        marked = good;
+        sums = h .sums;
+      }
+
+  -- none
+  pub unmarked : (n : ℕ) → Held xs r t m s out (replicate n 0)
+  unmarked n = remarked (replicate n 0) (none-kept (Marked t (drop 1 (h .nodes))) n)
+
+  -- with one at the newest record
+  pub kept : (shift : ℕ) → Held xs r t m s out (keptWith (s .latest) shift ms)
+  unfolding keptWith
+  kept shift = remarked (keptWith (s .latest) shift ms) (by (eqb (s .latest .nodes) 0) refl)
+    where
+      new : Mark
+      new = record { nodes = s .latest .nodes - 1; place = s .latest .place }
+
+      by : (b : Bool) → eqb (s .latest .nodes) 0 ≡ b → Every (Marked t (drop 1 (h .nodes))) (pick b ms (noted new shift (s .latest .nodes - 1) ms))
+      by true e = h .marked
+      by false e =
+          let l : front t + sizes (drop 1 (h .nodes)) ≤ front t + sizes (h .nodes) = older t (h .nodes) in
+          noted-keeps (Marked t (drop 1 (h .nodes))) new shift (s .latest .nodes - 1) ms (omega (arith, h .place, h .short))
+          (newest-marked t (h .nodes) (s .latest .nodes) (s .latest .place) (h .counted) (eqb-false (s .latest .nodes) 0 e) (h .place)) (h .marked)
 
 -- ---- the start
 
 pub started : (xs r : List ℕ) (t : Table) (m : Meaning) (s : State) (out ps : List ℕ) (d f : ℕ) → Bytes r → Builds r t (length xs) → meaning r ≡ given m
-    → out ≡ over xs 0 (frontOf t r (front t)) → s .at ≡ 28 → s .end ≡ front t → s .latest .place ≡ front t → s .latest .count ≡ 0
-    → s .marks ≡ all (record { nodes = 0; place = 36 }) → d ≡ 0 → f ≡ front t → ps ≡ part out 0 f → s .sum .value ≡ (d + sum ps) % 256
-    → Held xs r t m s out
+    → out ≡ over xs 0 (frontOf t r (front t)) → s .at ≡ 28 → s .end ≡ front t → s .latest .place ≡ front t → s .latest .count ≡ 0 → s .latest .nodes ≡ 0
+    → d ≡ 0 → f ≡ front t → ps ≡ part out 0 f → s .sum .value ≡ (d + sum ps) % 256
+    → Held xs r t m s out []
 unfolding sizes records
-started xs r t m s out ps d f bytes b e held sat send splace scount smarks ed ef ep es =
+started xs r t m s out ps d f bytes b e held sat send splace scount snodes ed ef ep es =
     let (n, own, leads) = from-head r m e in
     let same : b .meant ≡ m = cc (b .means) in
     let for : m .head .table ≡ t = rw same at (b .for) in
@@ -256,9 +314,8 @@ started xs r t m s out ps d f bytes b e held sat send splace scount smarks ed ef
       counts = tt;
       few = omega arith;
       held = rw append-nil held;
-      parent = rw smarks (omega arith, refl);
-      cache = rw smarks (omega arith, refl);
-      back = rw smarks (omega arith, refl);
+      counted = snodes;
+      marked = λ i z. absurd (z refl);
       sums = rw (send, append-nil) (es ∙ rw (ed, ep, ef, z, zero-add));
     }
 
@@ -271,11 +328,11 @@ check-byte : (x : ℕ) → le 1 (checkOf x) ≡ checkOf x ∷ []
 unfolding le
 check-byte x = let e : checkOf x % 256 ≡ checkOf x = omega arith in rw e
 
-pub ended : (xs r : List ℕ) (t : Table) (m : Meaning) (s : State) (out one two : List ℕ) (v : ℕ) → Held xs r t m s out → length r ≤ s .at → meaning r ≡ given m
+pub ended : (xs r : List ℕ) (t : Table) (m : Meaning) (s : State) (out ms one two : List ℕ) (v : ℕ) → Held xs r t m s out ms → length r ≤ s .at → meaning r ≡ given m
     → one ≡ over out 4 (le 4 (s .end)) → v ≡ checkOf (s .sum .value) → two ≡ over one 9 (le 1 v)
     → two ≡ over xs 0 (table r)
 unfolding table tableFrom summed cut
-ended xs r t m s out one two v h l e eo ev et =
+ended xs r t m s out ms one two v h l e eo ev et =
     let is = part r 2 26 in
     let rs = records t (h .nodes) in
     let same : means (headIn t r) (h .nodes) ≡ m = run-end (headIn t r) (h .since) (h .nodes) m (rw (drop-of-length-le r l) at (h .leads)) in
@@ -288,8 +345,8 @@ ended xs r t m s out one two v h l e eo ev et =
     et ∙ z ∙ rw (e, ← same, len, header-any t is n 0 (s .end) 0, header-any t is n 0 (s .end) (checkOf (sum (header (headIn t r) 0 (s .end) 0 ++ rs))))
 
 -- a record of no kind has no meaning
-pub unknown : {A : Type 0} (r : List ℕ) (t : Table) (s : State) (out : List ℕ) → Ready r t s out → s .at < length r → kindOf t (getD r (s .at) 0) ≡ none → A
-unknown r t s out y l e =
+pub unknown : {A : Type 0} (r : List ℕ) (t : Table) (s : State) (out ms : List ℕ) → Ready r t s out ms → s .at < length r → kindOf t (getD r (s .at) 0) ≡ none → A
+unknown r t s out ms y l e =
     let h = y .holds in
     let (k, f, z) = turn (headIn t r) (h .since) r (h .nodes) (s .at) (y .meant) l (h .leads) in
     absurd (let z : _≡_ {A = ℕ} 0 1 = cc in omega arith)

@@ -18,6 +18,11 @@ unfolding part
 part-over bs p cs h =
     rw (over-fits bs p cs h, drop-at (take p bs) (cs ++ drop (p + length cs) bs) p (length-take-le p bs (omega arith)), take-at cs (drop (p + length cs) bs) (length cs) refl)
 
+-- a part as it is lent
+pub window-part : (xs : List ℕ) (a k n : ℕ) → k ≡ n → take k (drop a xs) ≡ part xs a n
+unfolding part
+window-part xs a k n e = rw e
+
 -- a part of what was laid over a buffer
 pub part-laid : (xs ps qs rs : List ℕ) → length (ps ++ (qs ++ rs)) ≤ length xs → part (over xs 0 (ps ++ (qs ++ rs))) (length ps) (length qs) ≡ qs
 unfolding part
@@ -45,17 +50,42 @@ shift₂ a b x y e = omega arith
 shift₃ : (a b x y z : ℕ) → a ≡ b % 256 → (a + x + y + z) % 256 ≡ (b + x + y + z) % 256
 shift₃ a b x y z e = omega arith
 
--- four numbers added one by one
-pub sum-chain : (v a d l m p q r s : ℕ) → p ≡ (v + a) % 256 → q ≡ (p + d) % 256 → r ≡ (q + l) % 256 → s ≡ (r + m) % 256 → s ≡ (v + a + d + l + m) % 256
-sum-chain v a d l m p q r s e f g h = h ∙ shift r (q + l) m g ∙ shift₂ q (p + d) l m f ∙ shift₃ p (v + a) d l m e
+-- three numbers added one by one
+pub sum-three : (v a l m p q r : ℕ) → p ≡ (v + a) % 256 → q ≡ (p + l) % 256 → r ≡ (q + m) % 256 → r ≡ (v + a + l + m) % 256
+sum-three v a l m p q r e g h = h ∙ shift q (p + l) m g ∙ shift₂ p (v + a) l m e
 
 shut : (x l : ℕ) → x % 256 ≡ (x + checkOf l + l) % 256
 shut x l = omega arith
+
+-- of no bytes there is nothing to add, and nothing to take away
+none-of : (out : List ℕ) (f n : ℕ) → n ≡ 0 → sum (part out f n) ≡ 0
+unfolding part sum
+none-of out f n z = rw z
+
+still-mod : (v : ℕ) → v < 256 → v ≡ (v + checkOf 0) % 256
+still-mod v l = omega arith
+
+pub sum-same : (v : ℕ) (out : List ℕ) (f n : ℕ) → n ≡ 0 → v < 256 → v ≡ (v + checkOf (sum (part out f n))) % 256
+sum-same v out f n z l = rw (none-of out f n z) (still-mod v l)
 
 -- nothing comes at the end: the length is the old one
 pub sum-still : (v a : ℕ) (out : List ℕ) (e n : ℕ) → n ≡ 0 → (v + a) % 256 ≡ (v + a + sum (part out e n) + checkOf (sum (le 4 e)) + sum (le 4 (e + n))) % 256
 unfolding part sum
 sum-still v a out e n z = rw (z, add-zero, add-zero) (shut (v + a) (sum (le 4 e)))
+
+-- a change adds up: where nothing changes, where bytes change and come, where none comes
+module _ (v : ℕ) (out : List ℕ) (f len e more : ℕ) where
+  pub made-after : (n r : ℕ) → len ≡ 0 → more ≡ n → r ≡ (v + sum (part out e n) + checkOf (sum (le 4 e)) + sum (le 4 (e + n))) % 256
+      → r ≡ (v + sum (part out f len) + sum (part out e more) + checkOf (sum (le 4 e)) + sum (le 4 (e + more))) % 256
+  made-after n r l m h = h ∙ rw (none-of out f len l, m, add-zero)
+
+  pub grown-after : (k n p r : ℕ) → len ≡ k → more ≡ n → p ≡ (v + sum (part out f k)) % 256 → r ≡ (p + sum (part out e n) + checkOf (sum (le 4 e)) + sum (le 4 (e + n))) % 256
+      → r ≡ (v + sum (part out f len) + sum (part out e more) + checkOf (sum (le 4 e)) + sum (le 4 (e + more))) % 256
+  grown-after k n p r l m g h = rw (l, m) (h ∙ shift₃ p (v + sum (part out f k)) (sum (part out e n)) (checkOf (sum (le 4 e))) (sum (le 4 (e + n))) g)
+
+  pub set-after : (k r : ℕ) → len ≡ k → more ≡ 0 → r ≡ (v + sum (part out f k)) % 256
+      → r ≡ (v + sum (part out f len) + sum (part out e more) + checkOf (sum (le 4 e)) + sum (le 4 (e + more))) % 256
+  set-after k r l m h = rw l (h ∙ sum-still v (sum (part out f k)) out e more m)
 
 together : (a x y z w : ℕ) → (a + x + y + z + w) % 256 ≡ (a + (x + y + z + w)) % 256
 together a x y z w = ap (λ (n : ℕ). n % 256) (omega arith)

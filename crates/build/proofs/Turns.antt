@@ -51,6 +51,7 @@ pub record Laid (xs fs : List ℕ) (t : Table) (ns : List Node) (s : State) (out
   pub place : s .latest .place ≡ front t + sizes (drop 1 ns)
   pub counts : Counts (newest ns) (s .latest)
   pub few : s .latest .count ≤ 65535
+  pub counted : s .latest .nodes ≡ length ns
   pub good : Good t ns
   pub short : front t + sizes ns ≤ limit
   pub room : front t + sizes ns ≤ length xs
@@ -72,6 +73,7 @@ pub record Turned (xs fs : List ℕ) (t : Table) (ns more : List Node) (c : Chan
   pub place : c .latest .place ≡ front t + sizes (drop 1 more)
   pub counts : Counts (newest more) (c .latest)
   pub few : c .latest .count ≤ 65535
+  pub counted : c .latest .nodes ≡ length more
   pub held : out ≡ over xs 0 (fs ++ records t more)
 
 -- ---- a record is made
@@ -80,7 +82,7 @@ module _ {xs fs : List ℕ} {t : Table} {ns : List Node} {s : State} {out : List
   length-held : length (fs ++ records t ns) ≡ s .end
   length-held = rw (length-append, length-records) (omega (arith, h .long, h .ends))
 
-  made : (n : Node) (i j : ℕ) → Counts (newest (n ∷ ns)) (record { place = s .end; count = 0; initiators = i; targets = j }) → bytes (placeIn out) n ≡ bytes (placeOf (starts t ns)) n
+  made : (n : Node) (i j : ℕ) → Counts (newest (n ∷ ns)) (record { nodes = s .latest .nodes + 1; place = s .end; count = 0; initiators = i; targets = j }) → bytes (placeIn out) n ≡ bytes (placeOf (starts t ns)) n
       → Turned xs fs t ns (n ∷ ns) (making s (size (n .form)) i j) (appended (s .end) n out)
   unfolding records
   made n i j c e =
@@ -102,6 +104,7 @@ module _ {xs fs : List ℕ} {t : Table} {ns : List Node} {s : State} {out : List
         place = h .ends;
         counts = c;
         few = omega arith;
+        counted = rw (add-one, h .counted);
         held = over-next xs 0 z out (s .end) (bytes g n) (appended (s .end) n out) (h .held) (rw e) (omega arith) ∙ ap (λ (l : List ℕ). over xs 0 l) (append-assoc fs (records t ns) (bytes g n));
       }
 
@@ -112,11 +115,11 @@ changed : (xs fs : List ℕ) (t : Table) (ns : List Node) (a b : Node) (c : Chan
     → length fs ≡ front t
     → bytes (placeOf (starts t ns)) a ≡ ps ++ (old ++ kept) → bytes (placeOf (starts t ns)) b ≡ ps ++ (new ++ (kept ++ tail)) → length new ≡ length old
     → c .from ≡ front t + sizes ns + length ps → c .len ≡ length old → c .more ≡ length tail
-    → c .latest .place ≡ front t + sizes ns → Counts (newest (b ∷ ns)) (c .latest) → c .latest .count ≤ 65535
+    → c .latest .place ≡ front t + sizes ns → Counts (newest (b ∷ ns)) (c .latest) → c .latest .count ≤ 65535 → c .latest .nodes ≡ suc (length ns)
     → out ≡ over xs 0 ((fs ++ records t ns) ++ bytes (placeOf (starts t ns)) b)
     → Turned xs fs t (a ∷ ns) (b ∷ ns) c out
 unfolding records
-changed xs fs t ns a b c out ps old new kept tail long ea eb same from len extra place counts few held =
+changed xs fs t ns a b c out ps old new kept tail long ea eb same from len extra place counts few counted held =
     let z = fs ++ records t ns in
     record {
       head = z ++ ps;
@@ -133,6 +136,7 @@ changed xs fs t ns a b c out ps old new kept tail long ea eb same from len extra
       place = place;
       counts = counts;
       few = few;
+      counted = counted;
       held = held ∙ ap (λ (l : List ℕ). over xs 0 l) (append-assoc fs (records t ns) (bytes (placeOf (starts t ns)) b));
     }
 
@@ -254,7 +258,7 @@ module _ (xs fs : List ℕ) (s : State) (out : List ℕ) where
       let o : out ≡ over xs 0 (z ++ (f ++ js)) = e ∙ rw (old, append-assoc) in
       let w = grew xs z f js (le 1 (size (processor (suc n)))) (le 4 (suc n)) (le 4 (g v)) (s .latest .place) 1 16 (s .latest .place + size (processor n)) (h .place ∙ sym lz) (rw length-le (omega arith)) (rw length-le (omega arith)) (omega arith) in
       changed xs fs pptt ns (node (processor n) us) (node (processor (suc n)) (us ++ (v ∷ []))) (growing s 20 4) _ [] f (processorFront g n us (suc n)) js (le 4 (g v))
-      (h .long) old (processor-is g n us l v) (length-processor g n us (suc n) ∙ sym lf) (h .place ∙ omega arith) (sym lf) (sym (length-le 4 (g v))) (h .place) (ap (λ (k : ℕ). k + 1) (h .counts) ∙ add-one n) (omega (arith, h .counts))
+      (h .long) old (processor-is g n us l v) (length-processor g n us (suc n) ∙ sym lf) (h .place ∙ omega arith) (sym lf) (sym (length-le 4 (g v))) (h .place) (ap (λ (k : ℕ). k + 1) (h .counts) ∙ add-one n) (omega (arith, h .counts)) (h .counted)
       (rw (h .counts, add-one n, place, o) (w ∙ rw (processor-front g n us, ← processor-is g n us l v)))
 
   handle-one : (n v : ℕ) (us : List ℕ) (ns : List Node) → Laid xs fs hmat (node (side n) us ∷ ns) s out → n < 65535
@@ -274,7 +278,7 @@ module _ (xs fs : List ℕ) (s : State) (out : List ℕ) where
       let o : out ≡ over xs 0 (z ++ (f ++ js)) = h .held ∙ rw (old, append-assoc) in
       let w = grew xs z f js (le 4 (size (side (suc n)))) (le 2 (suc n)) (le 2 v) (s .latest .place) 4 30 (s .latest .place + 32 + 2 * n) (h .place ∙ sym lz) (rw length-le (omega arith)) (rw length-le (omega arith)) (omega arith) in
       changed xs fs hmat ns (node (side n) us) (node (side (suc n)) (us ++ (v ∷ []))) (growing s 32 2) _ [] f (sideFront g n us (suc n)) js (le 2 v)
-      (h .long) old (side-is g n us l v) (length-side g n us (suc n) ∙ sym lf) (h .place ∙ omega arith) (sym lf) (sym (length-le 2 v)) (h .place) (ap (λ (k : ℕ). k + 1) (h .counts) ∙ add-one n) (omega (arith, h .counts))
+      (h .long) old (side-is g n us l v) (length-side g n us (suc n) ∙ sym lf) (h .place ∙ omega arith) (sym lf) (sym (length-le 2 v)) (h .place) (ap (λ (k : ℕ). k + 1) (h .counts) ∙ add-one n) (omega (arith, h .counts)) (h .counted)
       (rw (h .counts, add-one n, o) (w ∙ rw (side-front g n us, ← side-is g n us l v)))
 
 -- ---- settings
@@ -324,7 +328,7 @@ module _ (xs fs : List ℕ) (s : State) (out : List ℕ) where
       let at-place : settingAt s x ≡ s .latest .place + k = rw (h .counts .0, h .counts .1) (offset (s .latest .place) i t x) in
       let o : out ≡ over xs 0 (z ++ (b ++ [])) = h .held ∙ rw (append-nil, append-assoc) in
       changed xs fs hmat ns (node (matrix i t) us) (node (matrix i t) (set us (spot i t x) (setTo x))) (setting-of s x) _ (take k b) (part b k w) cs (drop (k + w) b) []
-      (h .long) (split-at b k w) (new ∙ over-fits b k cs (omega arith) ∙ rw (lc, append-nil)) (lc ∙ sym (length-part b k w (omega arith))) (at-place ∙ omega (arith, h .place)) (sym (length-part b k w (omega arith))) refl (h .place) (h .counts) (h .few)
+      (h .long) (split-at b k w) (new ∙ over-fits b k cs (omega arith) ∙ rw (lc, append-nil)) (lc ∙ sym (length-part b k w (omega arith))) (at-place ∙ omega (arith, h .place)) (sym (length-part b k w (omega arith))) refl (h .place) (h .counts) (h .few) (h .counted)
       (rw (at-place, o) (inside xs z b [] cs (s .latest .place) k (h .place ∙ sym lz) (omega arith) ∙ rw (append-nil, ← new)))
 
   resource-turned : (vs : List ℕ) → Fit (body Resource) vs → {ns : List Node} {x : Newest} → View ns x → resource vs x .placed ≡ true → resource vs x .full ≡ false

@@ -128,24 +128,24 @@ module _ (xs fs ys : List ℕ) (ns : List Node) (l : length fs ≡ 36) (room : l
 
 -- ---- places of marks
 
-pub after-older : (n : Node) (es : List Node) (i : ℕ) → i ≤ length es → placeAfter (n ∷ es) i ≡ placeAfter es i
-after-older n es i h =
+pub after-older : (t : Table) (n : Node) (es : List Node) (i : ℕ) → i ≤ length es → placeAfter t (n ∷ es) i ≡ placeAfter t es i
+after-older t n es i h =
     let e : suc (length es) - i ≡ suc (length es - i) = omega arith in
     rw e
 
 reach-at : (xs zs : List ℕ) (n : Node) (ns : List Node) (i : ℕ) (x : Bool) → leb i (length ns) ≡ x → length xs ≡ 36 → Good pptt (n ∷ ns) → i ≤ suc (length ns)
-    → (i ≤ length ns → (ys : List ℕ) → hops (xs ++ (records pptt ns ++ ys)) i (length xs) ≡ placeAfter ns i)
-    → hops (xs ++ (records pptt (n ∷ ns) ++ zs)) i (length xs) ≡ placeAfter (n ∷ ns) i
+    → (i ≤ length ns → (ys : List ℕ) → hops (xs ++ (records pptt ns ++ ys)) i (length xs) ≡ placeAfter pptt ns i)
+    → hops (xs ++ (records pptt (n ∷ ns) ++ zs)) i (length xs) ≡ placeAfter pptt (n ∷ ns) i
 reach-at xs zs n ns i true q l g h ih =
     let d : i ≤ length ns = leb-true i (length ns) q in
-    rw (regroup xs zs n ns) (ih d (bytes (placeOf (starts pptt ns)) n ++ zs) ∙ sym (after-older n ns i d))
+    rw (regroup xs zs n ns) (ih d (bytes (placeOf (starts pptt ns)) n ++ zs) ∙ sym (after-older pptt n ns i d))
 reach-at xs zs n ns i false q l g h ih =
     let d : i ≡ suc (length ns) = (let f = leb-false i (length ns) q in omega arith) in
     let e : suc (length ns) - suc (length ns) ≡ 0 = omega arith in
     rw (d, e) (hops-end xs zs (n ∷ ns) g ∙ rw l)
 
 -- hops lead to every record, and to the end
-reach-all : (xs zs : List ℕ) (ns : List Node) (i : ℕ) → length xs ≡ 36 → Good pptt ns → i ≤ length ns → hops (xs ++ (records pptt ns ++ zs)) i (length xs) ≡ placeAfter ns i
+reach-all : (xs zs : List ℕ) (ns : List Node) (i : ℕ) → length xs ≡ 36 → Good pptt ns → i ≤ length ns → hops (xs ++ (records pptt ns ++ zs)) i (length xs) ≡ placeAfter pptt ns i
 unfolding sizes
 reach-all xs zs [] zero l g h = hops-none (xs ++ (records pptt [] ++ zs)) (length xs) ∙ rw l
 reach-all xs zs [] (suc i) l g h = absurd (omega arith)
@@ -164,11 +164,11 @@ reaches t xs fs ns out e l room g held i h =
 -- what holds of nodes holds of those before the newest
 pub reaches-older : (bs : List ℕ) (ns : List Node) → Reaches bs ns → Reaches bs (drop 1 ns)
 reaches-older bs [] r = r
-reaches-older bs (n ∷ ns) r = λ i h. r i (omega arith) ∙ after-older n ns i h
+reaches-older bs (n ∷ ns) r = λ i h. r i (omega arith) ∙ after-older pptt n ns i h
 
-pub marked-newer : (ns : List Node) (m : Mark) → Marked (drop 1 ns) m → Marked ns m
-marked-newer [] m h = h
-marked-newer (n ∷ ns) m h = (omega (arith, h .0), h .1 ∙ sym (after-older n ns (m .nodes) (h .0)))
+pub marked-newer : (t : Table) (ns : List Node) (m : Mark) → Marked t (drop 1 ns) m → Marked t ns m
+marked-newer t [] m h = h
+marked-newer t (n ∷ ns) m h = (omega (arith, h .0), h .1 ∙ sym (after-older t n ns (m .nodes) (h .0)))
 
 sizes-drop : (j : ℕ) (es : List Node) → sizes (drop j es) ≤ sizes es
 unfolding sizes
@@ -176,8 +176,13 @@ sizes-drop zero es = omega arith
 sizes-drop (suc j) [] = omega arith
 sizes-drop (suc j) (e ∷ es) = omega (arith, sizes-drop j es)
 
-pub marked-leads : (bs : List ℕ) (es : List Node) (m : Mark) → 36 + sizes es ≤ limit → Reaches bs es → Marked es m → Leads bs m
+pub marked-leads : (bs : List ℕ) (es : List Node) (m : Mark) → 36 + sizes es ≤ limit → Reaches bs es → Marked pptt es m → Leads bs m
 marked-leads bs es m short r h = (omega (arith, h .1, sizes-drop (length es - m .nodes) es), r (m .nodes) (h .0) ∙ sym (h .1))
 
-pub reached-marked : (bs : List ℕ) (es : List Node) (to : ℕ) (m : Mark) → m ≡ record { nodes = to - 1; place = hops bs (to - 1) 36 } → (to ≤ length es) × Reaches bs es → Marked es m
-reached-marked bs es to m e (h, r) = rw e (omega arith, r (to - 1) (omega arith))
+-- the newest record is one of those that marks may be at
+pub newest-marked : (t : Table) (ns : List Node) (k p : ℕ) → k ≡ length ns → (k ≡ 0 → ⊥) → p ≡ front t + sizes (drop 1 ns) → Marked t (drop 1 ns) (record { nodes = k - 1; place = p })
+newest-marked t [] k p e z q = absurd (z e)
+newest-marked t (n ∷ ns) k p e z q =
+    let one : k - 1 ≡ length ns = omega arith in
+    let none : length ns - length ns ≡ 0 = omega arith in
+    rw one (omega arith, q ∙ rw none)

@@ -3,16 +3,16 @@ use mathlib.Core.Path.{_≡_}
 use Prim.Native.Nat.{ℕ, _+_, _-_, _%_, _≤_}
 use mathlib.Core.List.{List, _++_}
 use lib.ListN.{length, drop}
-use Rattle.format.specs.Bytes.{Bytes, part, over, sum, given}
-use Rattle.format.specs.Table.{Table, Head, headOf, front, limit}
+use lib.Dec.{eqb}
+use Rattle.format.specs.Bytes.{Bytes, pick, part, over, sum, given}
+use Rattle.format.specs.Table.{Table, pptt, Head, headOf, front, limit}
 use Rattle.format.specs.Node.{Node, sizes}
 use Rattle.format.specs.Recipe.{Meaning, Newest, aProcessor, aMatrix, aSide, other, newest, cut, run, meaning}
 use Rattle.format.specs.Build.{records, header}
 use Rattle.laws.proofs.Good.{Good}
 use Rattle.build.specs.declared.Latest.{Latest}
 use Rattle.marks.specs.declared.Mark.{Mark}
-use Rattle.marks.specs.declared.Marks.{Marks}
-use Rattle.marks.specs.Marks.{Every}
+use Rattle.marks.specs.Marks.{noted, Every}
 use Rattle.recipe.specs.declared.Reference.{Reference}
 use Rattle.recipe.specs.declared.Reference.the-variants as names
 use Rattle.build.specs.declared.Found.{Found}
@@ -34,23 +34,19 @@ Counts (aMatrix i t us ns) l = (l .initiators ≡ i) × (l .targets ≡ t)
 Counts (aSide n us ns) l = l .count ≡ n
 Counts other l = Unit
 
--- ---- the records that were named last
+-- ---- places of records
 
--- where record i stands, counted from 0, behind the records es of a PPTT, the newest first
-abbrev pub placeAfter : List Node → ℕ → ℕ
-placeAfter es i = 36 + sizes (drop (length es - i) es)
+-- where record i stands, counted from 0, behind the records es of a table, the newest first
+abbrev pub placeAfter : Table → List Node → ℕ → ℕ
+placeAfter t es i = front t + sizes (drop (length es - i) es)
 
 -- a mark is at one of them, or at their end
-abbrev pub Marked : List Node → Mark → Type 0
-Marked es m = (m .nodes ≤ length es) × (m .place ≡ placeAfter es (m .nodes))
+abbrev pub Marked : Table → List Node → Mark → Type 0
+Marked t es m = (m .nodes ≤ length es) × (m .place ≡ placeAfter t es (m .nodes))
 
--- hops lead to a mark
+-- hops lead to a mark of a PPTT
 abbrev pub Leads : List ℕ → Mark → Type 0
 Leads bs m = (m .place ≤ limit) × (hops bs (m .nodes) 36 ≡ m .place)
-
--- and to all three
-abbrev pub Leading : List ℕ → Marks → Type 0
-Leading bs m = Every (Leads bs) m
 
 -- what was found is the place of the record that a reference names, or 0
 abbrev pub Placed : List ℕ → Reference → Found → Type 0
@@ -60,18 +56,16 @@ Placed bs names.Nothing f = Unit
 
 -- hops lead to every record
 abbrev pub Reaches : List ℕ → List Node → Type 0
-Reaches bs es = (i : ℕ) → i ≤ length es → hops bs i 36 ≡ placeAfter es i
+Reaches bs es = (i : ℕ) → i ≤ length es → hops bs i 36 ≡ placeAfter pptt es i
 
--- marks that were right are right after they moved to the record that a reference names, if it is one
-abbrev pub Keeps : List ℕ → ℕ → Marks → Marks → Type 0
-Keeps bs to m m′ =
-    (es : List Node) → ((to ≡ 0 → ⊥) → (to ≤ length es) × Reaches bs es) → Marked es (m .parent) → Marked es (m .cache) → Marked es (m .back)
-    → Every (Marked es) m′
+-- the marks with one at the newest record, if there is one
+unfoldable pub keptWith : Latest → ℕ → List ℕ → List ℕ
+keptWith l shift ms = pick (eqb (l .nodes) 0) ms (noted (record { nodes = l .nodes - 1; place = l .place }) shift (l .nodes - 1) ms)
 
 -- ---- the pass
 
--- xs: the buffer at the start; m: what the recipe r means
-pub record Held (xs r : List ℕ) (t : Table) (m : Meaning) (s : State) (out : List ℕ) : Type 0 where
+-- xs: the buffer at the start; m: what the recipe r means; ms: the marks
+pub record Held (xs r : List ℕ) (t : Table) (m : Meaning) (s : State) (out ms : List ℕ) : Type 0 where
   pub bytes : Bytes r
   pub whole : 28 ≤ length r
   pub space : front t + sizes (m .nodes) ≤ length xs
@@ -85,26 +79,30 @@ pub record Held (xs r : List ℕ) (t : Table) (m : Meaning) (s : State) (out : L
   pub counts : Counts (newest nodes) (s .latest)
   pub few : s .latest .count ≤ 65535
   pub held : out ≡ over xs 0 (frontOf t r (front t) ++ records t nodes)
-  pub parent : Marked (drop 1 nodes) (s .marks .parent)
-  pub cache : Marked (drop 1 nodes) (s .marks .cache)
-  pub back : Marked (drop 1 nodes) (s .marks .back)
+  pub counted : s .latest .nodes ≡ length nodes
+  pub marked : Every (Marked t (drop 1 nodes)) ms
   pub sums : s .sum .value ≡ sum (frontOf t r (s .end) ++ records t nodes) % 256
 
 -- the same of some buffer and some meaning: what a step relies on
-pub record Ready (r : List ℕ) (t : Table) (s : State) (out : List ℕ) : Type 0 where
+pub record Ready (r : List ℕ) (t : Table) (s : State) (out ms : List ℕ) : Type 0 where
   pub start : List ℕ
   pub meant : Meaning
-  pub holds : Held start r t meant s out
+  pub holds : Held start r t meant s out ms
 
--- what a step gives: it goes on to the same meaning
+-- what a step gives: it goes on to the same meaning, and the marks are as good as before
 abbrev pub Goes : List ℕ → Table → State → List ℕ → State → List ℕ → Type 0
-Goes r t s out s′ out′ = (xs : List ℕ) (m : Meaning) → Held xs r t m s out → Held xs r t m s′ out′
+Goes r t s out s′ out′ = (xs : List ℕ) (m : Meaning) (ms : List ℕ) → Held xs r t m s out ms → Held xs r t m s′ out′ ms
+
+-- what all steps give, whose marks are no longer asked for
+abbrev pub Ends : List ℕ → Table → State → List ℕ → List ℕ → State → List ℕ → Type 0
+Ends r t s out ms s′ out′ = (xs : List ℕ) (m : Meaning) → Held xs r t m s out ms → (ms′ : List ℕ) × Held xs r t m s′ out′ ms′
 
 -- the numbers of a state are small
 pub record Small (s : State) : Type 0 where
   pub end : s .end ≤ limit
   pub place : s .latest .place ≤ limit
   pub few : s .latest .count ≤ 65535
+  pub nodes : s .latest .nodes ≤ limit
 
 -- a recipe for the table builds, and n bytes are room enough
 pub record Builds (r : List ℕ) (t : Table) (n : ℕ) : Type 0 where

@@ -1,4 +1,5 @@
 -- What the writing pass does, record by record: the bytes of the buffer, and the numbers that the pass keeps.
+use mathlib.Core.Path.{_≡_}
 use Prim.Native.Nat.{ℕ, zero, suc, _+_, _-_, _%_}
 use mathlib.Core.List.{List}
 use lib.Dec.{eqb}
@@ -64,7 +65,7 @@ wrote Handle s vs out = hmat.grown out (s .latest .place) (s .latest .count) (at
 
 -- a record of n bytes is made; i and t are a matrix's own
 abbrev pub making : State → ℕ → ℕ → ℕ → Change
-making s n i t = record { from = s .end; len = 0; more = n; latest = record { place = s .end; count = 0; initiators = i; targets = t } }
+making s n i t = record { from = s .end; len = 0; more = n; latest = record { nodes = s .latest .nodes + 1; place = s .end; count = 0; initiators = i; targets = t } }
 
 -- the newest record gets one item of w bytes more, and its first n bytes say so
 abbrev pub growing : State → ℕ → ℕ → Change
@@ -73,7 +74,7 @@ growing s n w =
       from = s .latest .place;
       len = n;
       more = w;
-      latest = record { place = s .latest .place; count = s .latest .count + 1; initiators = s .latest .initiators; targets = s .latest .targets };
+      latest = record { nodes = s .latest .nodes; place = s .latest .place; count = s .latest .count + 1; initiators = s .latest .initiators; targets = s .latest .targets };
     }
 
 -- a value or a cell of the newest matrix is set
@@ -96,3 +97,7 @@ changeOf Target s vs = setting s (target (at vs 0) (at vs 1))
 changeOf Cell s vs = setting s (cell (at vs 0) (at vs 1) (at vs 2))
 changeOf Side s vs = making s (size (side 0)) 0 0
 changeOf Handle s vs = growing s (size (side 0)) (wide (fld 2))
+
+-- a change is that of some record of a kind
+abbrev pub Changes : Kind → Change → Type 0
+Changes k c = (s : State) × (vs : List ℕ) × (c ≡ changeOf k s vs)

@@ -1,10 +1,10 @@
 // Builds the table of a recipe: judges all of it, tests the room, and writes record by record, as the Rust's add_* do.
 ghost use mathlib.Core.Path.{_≡_};
 ghost use Prim.Native.Nat.{ℕ, _+_, _*_, _%_, _≤_, _<_};
-ghost use mathlib.Core.List.{List};
+ghost use mathlib.Core.List.{List, []};
 ghost use lib.ListN.{length};
 ghost use Rattle.format.specs.Bytes.{at as atByte, le, value, part, over, sum as sumOf, given};
-ghost use Rattle.format.specs.Layout.{fields};
+ghost use Rattle.format.specs.Layout.{width, fields};
 ghost use Rattle.format.specs.Table.{front, limit};
 ghost use Rattle.format.specs.Kind.{body};
 ghost use Rattle.format.specs.Kind as format;
@@ -12,8 +12,9 @@ ghost use Rattle.format.specs.Recipe.{Meaning, meaning};
 ghost use Rattle.format.specs.Build.{checkOf, build, table as tableOf, built};
 ghost use Rattle.header.specs.Header.{meant};
 ghost use Rattle.recipe.specs.Kinds.{meantKind, referenceOf, ordinalIn};
-ghost use Rattle.build.specs.Write.{hops, placeIn, wrote, making, growing, changeOf};
-ghost use Rattle.build.specs.Held.{frontOf, Leads, Leading, Placed, Keeps, Held, Ready, Goes, Small, Builds};
+ghost use Rattle.build.specs.Write.{hops, placeIn, wrote, making, growing, changeOf, Changes};
+ghost use Rattle.build.specs.Held.{frontOf, Leads, Placed, keptWith, Held, Ready, Goes, Ends, Small, Builds};
+ghost use Rattle.marks.specs.Marks.{Every};
 ghost use Rattle.recipe.specs.Answers.{number};
 ghost use Rattle.build.specs.Answers.{shown, numberIn, placeOf};
 use header::Checksum;
@@ -26,7 +27,6 @@ use hmat::SmbiosHandle;
 use hmat::SystemLocality;
 use hmat::Value;
 use marks::Mark;
-use marks::Marks;
 use pptt::CacheHandle;
 use pptt::CacheNode;
 use pptt::ProcessorHandle;
@@ -41,28 +41,27 @@ use srat::GenericInitiator;
 use srat::MemoryAffinity;
 use srat::RintcAffinity;
 
-// The newest record: its place, how many resources or handles it has, a matrix's I and T.
+// The newest record: how many there are with it, its place, how many resources or handles it has, a matrix's I and T.
 struct Latest {
+    nodes: u32,
     place: usize,
     count: u32,
     initiators: u32,
     targets: u32,
 }
 
-// The marks, and the place of the record that was looked for last: a processor's, or a cache's.
+// The place of the record that a record names: a processor's, or a cache's.
 struct Found {
-    marks: Marks,
     processor: ProcessorHandle,
     cache: CacheHandle,
 }
 
-// Where the pass stands: the next record of the recipe, the end of the table, its newest record, the sum of its bytes, and the records that were named last.
+// Where the pass stands: the next record of the recipe, the end of the table, its newest record, and the sum of its bytes.
 struct State {
     at: usize,
     end: usize,
     latest: Latest,
     sum: Checksum,
-    marks: Marks,
 }
 
 // What a record does to the table: so many bytes from a place on change, and so many more come at the end.
@@ -128,105 +127,83 @@ fn first() -> Mark
 {
     Mark {
         nodes: 0,
-        place: Table::PPTT_FRONT,
+        place: Table::PPTT_FRONT as u32,
     }
 }
 
-// Record i, counted from 0, by the lengths of those before it.
-fn reached(out: &[u8], from: Mark, i: usize) -> Mark
-    requires { ⌜ (from .nodes ≤ i) × (i < 4294967296) × Leads (now out) from ⌝ }
-    ensures { λ r. ⌜ r ≡ record { nodes = i; place = hops (now (out .entry)) i 36 } ⌝ }
+// The place of record i, counted from 0, by the lengths of those between a mark and it.
+fn reached(out: &[u8], from: Mark, i: u32) -> u32
+    requires { ⌜ (from .nodes ≤ i) × Leads (now out) from ⌝ }
+    ensures { λ r. ⌜ r ≡ hops (now (out .entry)) i 36 % 4294967296 ⌝ }
 {
-    let mut place = from.place;
+    let mut place = from.place as usize;
     let mut nodes = from.nodes;
     while nodes < i {
         place += field::get_u8(out, place + pptt::LENGTH_AT) as usize;
         nodes += 1;
     }
-    Mark { nodes: i, place }
+    (place % 4294967296) as u32
 }
 
-// At the parent that a processor names, if it names one.
-fn processor_at(out: &[u8], marks: Marks, h: ProcessorHandle) -> Found
-    requires { ⌜ ((h .0 ≡ 0 → ⊥) → Leading (now out) marks) ⌝ }
-    ensures { λ r. ⌜ (r .processor .0 ≡ placeIn (now (out .entry)) (h .0)) × Keeps (now (out .entry)) (h .0) marks (r .marks) ⌝ }
+// The place of the record of an ordinal; 0 for none.
+fn place_of(out: &[u8], marks: &[u64], shift: u32, ordinal: u32) -> u32
+    requires { ⌜ ((ordinal ≡ 0 → ⊥) → Every (Leads (now out)) (now marks)) ⌝ }
+    ensures { λ r. ⌜ r ≡ placeIn (now (out .entry)) ordinal ⌝ }
 {
-    if h.0 == 0 {
-        return Found {
-            marks,
-            processor: h,
-            cache: CacheHandle::NONE,
-        };
+    if ordinal == 0 {
+        return 0;
     }
-    let i = h.0 as usize - 1;
-    let mark = reached(out, marks.toward_parent(first(), i), i);
-    Found {
-        marks: marks.at_parent(mark),
-        processor: ProcessorHandle((mark.place % 4294967296) as u32),
-        cache: CacheHandle::NONE,
-    }
+    let i = ordinal - 1;
+    reached(out, first().toward_node(marks, shift, i), i)
 }
 
-// At the cache that a resource or a cache names, if it names one.
-fn cache_at(out: &[u8], marks: Marks, h: CacheHandle) -> Found
-    requires { ⌜ ((h .0 ≡ 0 → ⊥) → Leading (now out) marks) ⌝ }
-    ensures { λ r. ⌜ (r .cache .0 ≡ placeIn (now (out .entry)) (h .0)) × Keeps (now (out .entry)) (h .0) marks (r .marks) ⌝ }
-{
-    if h.0 == 0 {
-        return Found {
-            marks,
-            processor: ProcessorHandle::NONE,
-            cache: h,
-        };
-    }
-    let i = h.0 as usize - 1;
-    let mark = reached(out, marks.toward_cache(first(), i), i);
-    Found {
-        marks: marks.at_cache(i, mark),
-        processor: ProcessorHandle::NONE,
-        cache: CacheHandle((mark.place % 4294967296) as u32),
-    }
-}
-
-// At the record that a record of the recipe names.
-fn look_for(out: &[u8], marks: Marks, reference: Reference) -> Found
-    requires { ⌜ ((ordinalIn reference ≡ 0 → ⊥) → Leading (now out) marks) ⌝ }
-    ensures { λ r. ⌜ Placed (now (out .entry)) reference r × Keeps (now (out .entry)) (ordinalIn reference) marks (r .marks) ⌝ }
+// The record that a record of the recipe names.
+fn look_for(out: &[u8], marks: &[u64], shift: u32, reference: Reference) -> Found
+    requires { ⌜ ((ordinalIn reference ≡ 0 → ⊥) → Every (Leads (now out)) (now marks)) ⌝ }
+    ensures { λ r. ⌜ Placed (now (out .entry)) reference r ⌝ }
 {
     match reference {
-        Reference::Processor(h) => processor_at(out, marks, h),
-        Reference::Cache(h) => cache_at(out, marks, h),
+        Reference::Processor(h) => Found {
+            processor: ProcessorHandle(place_of(out, marks, shift, h.0)),
+            cache: CacheHandle::NONE,
+        },
+        Reference::Cache(h) => Found {
+            processor: ProcessorHandle::NONE,
+            cache: CacheHandle(place_of(out, marks, shift, h.0)),
+        },
         Reference::Nothing => Found {
-            marks,
             processor: ProcessorHandle::NONE,
             cache: CacheHandle::NONE,
         },
     }
 }
 
-// ---- HMAT
-
-// A setting of the newest matrix.
-fn set_initiator(bytes: &[u8], out: &mut [u8], s: State)
-    ensures { λ _. ⌜ now (out .exit) ≡ wrote format.Initiator s (fields (body format.Initiator) (now (bytes .entry))) (now (out .entry)) ⌝ }
+// Marks the newest record, whose place stays.
+fn keep(latest: Latest, marks: &mut [u64], shift: u32)
+    requires { ⌜ latest .place ≤ limit ⌝ }
+    ensures { λ _. ⌜ now (marks .exit) ≡ keptWith latest shift (now (marks .entry)) ⌝ }
 {
-    let latest = s.latest;
-    let x = Value::from_body(bytes);
-    SystemLocality::set_initiator_value(out, latest.place, x.idx as usize, x.value);
+    if latest.nodes == 0 {
+        return;
+    }
+    let nodes = latest.nodes - 1;
+    let mark = Mark {
+        nodes,
+        place: latest.place as u32,
+    };
+    mark.note(marks, shift, nodes as usize);
 }
 
-fn set_target(bytes: &[u8], out: &mut [u8], s: State)
-    ensures { λ _. ⌜ now (out .exit) ≡ wrote format.Target s (fields (body format.Target) (now (bytes .entry))) (now (out .entry)) ⌝ }
+// ---- HMAT
+
+// Sets a value of the newest matrix, whose place is known.
+fn set_value(bytes: &[u8], out: &mut [u8], place: usize)
+    requires { ⌜ (width (body format.Initiator) ≤ length (now bytes)) × (place + 4 ≤ length (now out)) ⌝ }
+    ensures { λ _. ⌜ now (out .exit) ≡ over (now (out .entry)) place (le 4 (atByte (fields (body format.Initiator) (now (bytes .entry))) 1)) ⌝ }
 {
-    let latest = s.latest;
-    let x = Value::from_body(bytes);
-    SystemLocality::set_target_value(
-        out,
-        latest.place,
-        latest.initiators as usize,
-        x.idx as usize,
-        x.value,
-    );
+    let x = Value::from_body(&bytes[..Value::BODY]);
+    let end = place + Value::LEN;
+    field::put_u32(&mut out[place..end], 0, x.value);
 }
 
 fn set_cell(bytes: &[u8], out: &mut [u8], s: State)
@@ -247,35 +224,46 @@ fn set_cell(bytes: &[u8], out: &mut [u8], s: State)
 
 // ---- one record
 
-// Writes the record of a kind whose body the bytes begin with; found: the record that it names.
-fn put(kind: Kind, bytes: &[u8], out: &mut [u8], s: State, found: Found)
-    requires { ⌜ Small s × Placed (now out) (referenceOf (meantKind kind) (now bytes)) found ⌝ }
+// Writes the record of a kind whose body the bytes begin with; found: the record that it names; change: what it changes.
+fn put(kind: Kind, bytes: &[u8], out: &mut [u8], s: State, found: Found, change: Change)
+    requires { ⌜ Small s × Placed (now out) (referenceOf (meantKind kind) (now bytes)) found × (width (body (meantKind kind)) ≤ length (now bytes)) × (change ≡ changeOf (meantKind kind) s (fields (body (meantKind kind)) (now bytes))) × (change .from + change .len ≤ length (now out)) ⌝ }
     ensures { λ _. ⌜ now (out .exit) ≡ wrote (meantKind kind) s (fields (body (meantKind kind)) (now (bytes .entry))) (now (out .entry)) ⌝ }
 {
     let end = s.end;
     let latest = s.latest;
     let place = latest.place;
     match kind {
-        Kind::Processor => ProcessorNode::from_body(bytes)
+        Kind::Processor => ProcessorNode::from_body(&bytes[..ProcessorNode::BODY])
             .named(found.processor)
             .put(out, end),
         Kind::Resource => ProcessorNode::add_cache(out, place, latest.count, found.cache),
-        Kind::Cache => CacheNode::from_body(bytes).named(found.cache).put(out, end),
-        Kind::Memory => MemoryAffinity::from_body(bytes).put(out, end),
-        Kind::Acpi => GenericInitiator::from_acpi_body(bytes).put(out, end),
-        Kind::Pci => GenericInitiator::from_pci_body(bytes).put(out, end),
-        Kind::Rintc => RintcAffinity::from_body(bytes).put(out, end),
-        Kind::Domain => MemoryProximityDomain::from_body(bytes).put(out, end),
+        Kind::Cache => CacheNode::from_body(&bytes[..CacheNode::BODY])
+            .named(found.cache)
+            .put(out, end),
+        Kind::Memory => MemoryAffinity::from_body(&bytes[..MemoryAffinity::BODY]).put(out, end),
+        Kind::Acpi => GenericInitiator::from_acpi_body(&bytes[..GenericInitiator::ACPI_BODY]).put(
+            out,
+            end,
+        ),
+        Kind::Pci => GenericInitiator::from_pci_body(&bytes[..GenericInitiator::PCI_BODY]).put(
+            out,
+            end,
+        ),
+        Kind::Rintc => RintcAffinity::from_body(&bytes[..RintcAffinity::BODY]).put(out, end),
+        Kind::Domain => MemoryProximityDomain::from_body(&bytes[..MemoryProximityDomain::BODY]).put(
+            out,
+            end,
+        ),
         Kind::Matrix => SystemLocality::from_body(bytes).put(out, end),
-        Kind::Initiator => set_initiator(bytes, out, s),
-        Kind::Target => set_target(bytes, out, s),
+        Kind::Initiator => set_value(bytes, out, change.from),
+        Kind::Target => set_value(bytes, out, change.from),
         Kind::Cell => set_cell(bytes, out, s),
-        Kind::Side => MemorySideCache::from_body(bytes).put(out, end),
+        Kind::Side => MemorySideCache::from_body(&bytes[..MemorySideCache::BODY]).put(out, end),
         Kind::Handle => MemorySideCache::grow(
             out,
             place,
             latest.count as u16,
-            SmbiosHandle::from_body(bytes),
+            SmbiosHandle::from_body(&bytes[..SmbiosHandle::BODY]),
         ),
     }
 }
@@ -283,13 +271,16 @@ fn put(kind: Kind, bytes: &[u8], out: &mut [u8], s: State, found: Found)
 impl State {
     // A record is made at the end; i and t are a matrix's own.
     fn making(self, more: usize, initiators: u32, targets: u32) -> Change
+        requires { ⌜ Small self ⌝ }
         ensures { λ r. ⌜ r ≡ making self more initiators targets ⌝ }
     {
+        let latest = self.latest;
         Change {
             from: self.end,
             len: 0,
             more,
             latest: Latest {
+                nodes: latest.nodes + 1,
                 place: self.end,
                 count: 0,
                 initiators,
@@ -309,6 +300,7 @@ impl State {
             len,
             more,
             latest: Latest {
+                nodes: latest.nodes,
                 place: latest.place,
                 count: latest.count + 1,
                 initiators: latest.initiators,
@@ -333,6 +325,7 @@ impl State {
 
 // A matrix is made at the end.
 fn making_matrix(bytes: &[u8], s: State) -> Change
+    requires { ⌜ Small s ⌝ }
     ensures { λ r. ⌜ r ≡ changeOf format.Matrix s (fields (body format.Matrix) (now (bytes .entry))) ⌝ }
 {
     let node = SystemLocality::from_body(bytes);
@@ -417,18 +410,85 @@ fn length_bytes(n: usize) -> [u8; 4]
     ]
 }
 
-// The sum with what a change has written, and with the new length in place of the old.
-fn summed(sum: Checksum, out: &[u8], change: Change, end: usize) -> Checksum
-    requires { ⌜ (end ≤ limit) × (change .more ≤ limit) ⌝ }
+// The sum without some bytes of the table, and with them.
+fn without(out: &[u8], from: usize, len: usize, sum: Checksum) -> Checksum
+    requires { ⌜ from + len ≤ length (now out) ⌝ }
+    ensures { λ r. ⌜ r .value ≡ (sum .value + checkOf (sumOf (part (now (out .entry)) from len))) % 256 ⌝ }
+{
+    let end = from + len;
+    sum.delete(&out[from..end])
+}
+
+fn with(out: &[u8], from: usize, len: usize, sum: Checksum) -> Checksum
+    requires { ⌜ from + len ≤ length (now out) ⌝ }
+    ensures { λ r. ⌜ r .value ≡ (sum .value + sumOf (part (now (out .entry)) from len)) % 256 ⌝ }
+{
+    let end = from + len;
+    sum.append(&out[from..end])
+}
+
+// The sum with so many bytes more at the end of the table, and with the new length in place of the old.
+fn with_more(out: &[u8], end: usize, more: usize, sum: Checksum) -> Checksum
+    requires { ⌜ end + more ≤ length (now out) ⌝ }
+    ensures { λ r. ⌜ r .value ≡ (sum .value + sumOf (part (now (out .entry)) end more) + checkOf (sumOf (le 4 end)) + sumOf (le 4 (end + more))) % 256 ⌝ }
+{
+    let sum = with(out, end, more, sum);
+    let sum = sum.delete(&length_bytes(end));
+    sum.append(&length_bytes(end + more))
+}
+
+// The sum without the bytes that a record of a kind changes. Each kind says how many: the compiler makes no loop of so few.
+fn before(kind: Kind, out: &[u8], change: Change, sum: Checksum) -> Checksum
+    requires { ⌜ Changes (meantKind kind) change × (change .from + change .len ≤ length (now out)) ⌝ }
+    ensures { λ r. ⌜ r .value ≡ (sum .value + checkOf (sumOf (part (now (out .entry)) (change .from) (change .len)))) % 256 ⌝ }
+{
+    let from = change.from;
+    match kind {
+        Kind::Processor => sum,
+        Kind::Resource => without(out, from, ProcessorNode::LEN, sum),
+        Kind::Cache => sum,
+        Kind::Memory => sum,
+        Kind::Acpi => sum,
+        Kind::Pci => sum,
+        Kind::Rintc => sum,
+        Kind::Domain => sum,
+        Kind::Matrix => sum,
+        Kind::Initiator => without(out, from, Value::LEN, sum),
+        Kind::Target => without(out, from, Value::LEN, sum),
+        Kind::Cell => without(out, from, Cell::LEN, sum),
+        Kind::Side => sum,
+        Kind::Handle => without(out, from, MemorySideCache::LEN, sum),
+    }
+}
+
+// The sum with what it has written there and at the end.
+fn after(kind: Kind, out: &[u8], change: Change, end: usize, sum: Checksum) -> Checksum
+    requires { ⌜ Changes (meantKind kind) change × (change .from + change .len ≤ length (now out)) × (end + change .more ≤ length (now out)) ⌝ }
     ensures { λ r. ⌜ r .value ≡ (sum .value + sumOf (part (now (out .entry)) (change .from) (change .len)) + sumOf (part (now (out .entry)) end (change .more)) + checkOf (sumOf (le 4 end)) + sumOf (le 4 (end + change .more))) % 256 ⌝ }
 {
-    let sum = sum.append(field::part(out, change.from, change.len));
-    if change.more == 0 {
-        return sum;
+    let from = change.from;
+    match kind {
+        Kind::Processor => with_more(out, end, ProcessorNode::LEN, sum),
+        Kind::Resource => {
+            let sum = with(out, from, ProcessorNode::LEN, sum);
+            with_more(out, end, Resource::LEN, sum)
+        }
+        Kind::Cache => with_more(out, end, CacheNode::LEN, sum),
+        Kind::Memory => with_more(out, end, MemoryAffinity::LEN, sum),
+        Kind::Acpi => with_more(out, end, GenericInitiator::LEN, sum),
+        Kind::Pci => with_more(out, end, GenericInitiator::LEN, sum),
+        Kind::Rintc => with_more(out, end, RintcAffinity::LEN, sum),
+        Kind::Domain => with_more(out, end, MemoryProximityDomain::LEN, sum),
+        Kind::Matrix => with_more(out, end, change.more, sum),
+        Kind::Initiator => with(out, from, Value::LEN, sum),
+        Kind::Target => with(out, from, Value::LEN, sum),
+        Kind::Cell => with(out, from, Cell::LEN, sum),
+        Kind::Side => with_more(out, end, MemorySideCache::LEN, sum),
+        Kind::Handle => {
+            let sum = with(out, from, MemorySideCache::LEN, sum);
+            with_more(out, end, SmbiosHandle::LEN, sum)
+        }
     }
-    let sum = sum.append(field::part(out, end, change.more));
-    let sum = sum.delete(&length_bytes(end));
-    sum.append(&length_bytes(end + change.more))
 }
 
 // Writes a number in the place of two bytes, which leave the sum as it comes.
@@ -439,14 +499,16 @@ fn replace(out: &mut [u8], at: usize, value: u16, sum: Checksum) -> Checksum
 {
     let low = (value % 256) as u8;
     let high = (value / 256) as u8;
-    let old = sum.sub(out[at]).sub(out[at + 1]);
-    field::put_u16(out, at, value);
+    let end = at + 2;
+    let window = &mut out[at..end];
+    let old = sum.sub(window[0]).sub(window[1]);
+    field::put_u16(window, 0, value);
     old.add(low).add(high)
 }
 
 // Writes the next record of the recipe; the bytes that it changes leave the sum before, and come back after.
-fn step(recipe: &[u8], table: Table, out: &mut [u8], s: State) -> State
-    requires { ⌜ (s .at < length (now recipe)) × Ready (now recipe) (meant table) s (now out) ⌝ }
+fn step(recipe: &[u8], table: Table, out: &mut [u8], marks: &[u64], shift: u32, s: State) -> State
+    requires { ⌜ (s .at < length (now recipe)) × Ready (now recipe) (meant table) s (now out) (now marks) ⌝ }
     ensures { λ r. ⌜ (s .at < r .at) × Goes (now (recipe .entry)) (meant table) s (now (out .entry)) r (now (out .exit)) ⌝ }
 {
     let at = s.at;
@@ -458,18 +520,16 @@ fn step(recipe: &[u8], table: Table, out: &mut [u8], s: State) -> State
     let bytes = field::rest(recipe, start);
     let change = change_of(kind, bytes, s);
     let end = s.end + change.more;
-    let old = s.sum.delete(field::part(out, change.from, change.len));
-    let found = look_for(out, s.marks, kind.refers(bytes));
-    put(kind, bytes, out, s, found);
-    let marks = found.marks;
-    let sum = summed(old, out, change, s.end);
+    let old = before(kind, out, change, s.sum);
+    let found = look_for(out, marks, shift, kind.refers(bytes));
+    put(kind, bytes, out, s, found, change);
+    let sum = after(kind, out, change, s.end, old);
     let latest = change.latest;
     State {
         at: next,
         end,
         latest,
         sum,
-        marks,
     }
 }
 
@@ -487,7 +547,7 @@ fn put_header(recipe: &[u8], table: Table, out: &mut [u8])
 // The state of a table without records.
 fn start(recipe: &[u8], table: Table, out: &mut [u8]) -> State
     requires { ⌜ Builds (now recipe) (meant table) (length (now out)) ⌝ }
-    ensures { λ r. ⌜ (r .at ≡ 28) × ((m : Meaning) → meaning (now (recipe .entry)) ≡ given m → Held (now (out .entry)) (now (recipe .entry)) (meant table) m r (now (out .exit))) ⌝ }
+    ensures { λ r. ⌜ (r .at ≡ 28) × ((m : Meaning) → meaning (now (recipe .entry)) ≡ given m → Held (now (out .entry)) (now (recipe .entry)) (meant table) m r (now (out .exit)) []) ⌝ }
 {
     put_header(recipe, table, out);
     let end = table.front();
@@ -496,13 +556,13 @@ fn start(recipe: &[u8], table: Table, out: &mut [u8]) -> State
         at: recipe::HEAD_LEN,
         end,
         latest: Latest {
+            nodes: 0,
             place: end,
             count: 0,
             initiators: 0,
             targets: 0,
         },
         sum,
-        marks: Marks::new(first()),
     }
 }
 
@@ -530,7 +590,7 @@ fn put_cell(
 
 // Writes the cells that follow, one record after the other, as step does; no other table has any.
 fn put_cells(recipe: &[u8], table: Table, out: &mut [u8], s: State) -> State
-    requires { ⌜ Ready (now recipe) (meant table) s (now out) ⌝ }
+    requires { ⌜ ((ms : List ℕ) × Ready (now recipe) (meant table) s (now out) ms) ⌝ }
     ensures { λ r. ⌜ (s .at ≤ r .at) × Goes (now (recipe .entry)) (meant table) s (now (out .entry)) r (now (out .exit)) ⌝ }
 {
     let Table::Hmat = table else {
@@ -544,7 +604,6 @@ fn put_cells(recipe: &[u8], table: Table, out: &mut [u8], s: State) -> State
         targets as usize,
     );
     let end = s.end;
-    let marks = s.marks;
     let mut at = s.at;
     let mut sum = s.sum;
     while at < recipe.len() {
@@ -554,7 +613,6 @@ fn put_cells(recipe: &[u8], table: Table, out: &mut [u8], s: State) -> State
                 end,
                 latest,
                 sum,
-                marks,
             };
         }
         sum = put_cell(recipe, at, cells, targets, out, sum);
@@ -565,30 +623,62 @@ fn put_cells(recipe: &[u8], table: Table, out: &mut [u8], s: State) -> State
         end,
         latest,
         sum,
-        marks,
     }
 }
 
-// Writes the records of a recipe, from a state on.
-fn put_records(recipe: &[u8], table: Table, out: &mut [u8], first: State) -> State
-    requires { ⌜ Ready (now recipe) (meant table) first (now out) ⌝ }
-    ensures { λ r. ⌜ (length (now (recipe .entry)) ≤ r .at) × Goes (now (recipe .entry)) (meant table) first (now (out .entry)) r (now (out .exit)) ⌝ }
+// Writes the records of a recipe, from a state on, and marks them.
+fn put_records(
+    recipe: &[u8],
+    table: Table,
+    out: &mut [u8],
+    marks: &mut [u64],
+    shift: u32,
+    first: State,
+) -> State
+    requires { ⌜ Ready (now recipe) (meant table) first (now out) (now marks) ⌝ }
+    ensures { λ r. ⌜ (length (now (recipe .entry)) ≤ r .at) × Ends (now (recipe .entry)) (meant table) first (now (out .entry)) (now (marks .entry)) r (now (out .exit)) ⌝ }
 {
     let mut s = first;
     while s.at < recipe.len() {
-        let next = step(recipe, table, out, s);
+        let next = step(recipe, table, out, marks, shift, s);
+        keep(next.latest, marks, shift);
         s = put_cells(recipe, table, out, next);
     }
     s
 }
 
+// The same with marks of its own: as many as a table of so many bytes asks for where it has references, in a PPTT.
+fn put_all(recipe: &[u8], table: Table, out: &mut [u8], len: usize, first: State) -> State
+    requires { ⌜ Ready (now recipe) (meant table) first (now out) [] ⌝ }
+    ensures { λ r. ⌜ (length (now (recipe .entry)) ≤ r .at) × Ends (now (recipe .entry)) (meant table) first (now (out .entry)) [] r (now (out .exit)) ⌝ }
+{
+    if let Table::Pptt = table {
+        let most = len / ProcessorNode::LEN;
+        if most < marks::FEW {
+            let mut few = [0u64; marks::FEW];
+            return put_records(recipe, table, out, &mut few, 0, first);
+        }
+        let mut many = [0u64; marks::MANY];
+        return put_records(
+            recipe,
+            table,
+            out,
+            &mut many,
+            marks::spread(most, marks::MANY),
+            first,
+        );
+    }
+    let mut none = [0u64; 0];
+    put_records(recipe, table, out, &mut none, 0, first)
+}
+
 // Writes the table of a recipe that builds.
-fn write(recipe: &[u8], table: Table, out: &mut [u8])
+fn write(recipe: &[u8], table: Table, out: &mut [u8], len: usize)
     requires { ⌜ Builds (now recipe) (meant table) (length (now out)) ⌝ }
     ensures { λ _. ⌜ now (out .exit) ≡ over (now (out .entry)) 0 (tableOf (now (recipe .entry))) ⌝ }
 {
     let first = start(recipe, table, out);
-    let last = put_records(recipe, table, out, first);
+    let last = put_all(recipe, table, out, len, first);
     let sum = last.sum.value();
     TableHeader::set_length(out, last.end as u32);
     TableHeader::set_checksum(out, sum);
@@ -604,7 +694,7 @@ pub fn build(recipe: &[u8], out: &mut [u8]) -> Built
             if out.len() < len {
                 return Built::NoRoom(len);
             }
-            write(recipe, table, out);
+            write(recipe, table, out, len);
             Built::Length(len)
         }
         Checked::Refused(refusal, at) => Built::Refused(refusal, at),

@@ -19,6 +19,9 @@ const PROCESSOR: usize = CACHE + 1 + CacheNode::BODY;
 
 const RESOURCE: usize = PROCESSOR + 1 + ProcessorNode::BODY;
 
+// The length of its table.
+const TABLE: usize = Table::PPTT_FRONT + CacheNode::LEN + ProcessorNode::LEN + Resource::LEN;
+
 fn put_recipe(out: &mut [u8]) {
     let cache = CacheNodeBuilder::default().size(1024).to_node();
     let processor = ProcessorNode::new(ProcessorHandle::NONE, 7).valid();
@@ -87,7 +90,7 @@ fn of_table(table: &[u8], recipe: &mut [u8]) {
 
 fn main() {
     let mut recipe = [0u8; RESOURCE + 1 + Resource::BODY];
-    let mut table = [0u8; 88];
+    let mut table = [0u8; TABLE];
     put_recipe(&mut recipe);
     of_recipe(&recipe, &mut table);
     of_table(&table, &mut recipe);

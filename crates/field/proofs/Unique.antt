@@ -13,6 +13,7 @@ use Rattle.field.proofs.get_u16.Reads as get-u16
 use Rattle.field.proofs.get_u32.Reads as get-u32
 use Rattle.field.proofs.get_u64.Reads as get-u64
 use Rattle.field.proofs.copy.Reads as copy
+use Rattle.field.proofs.copy_u64.Reads as copy-u64
 use Rattle.field.proofs.fill.Reads as fill
 use Rattle.field.proofs.u8sum.Reads as u8sum
 
@@ -32,6 +33,7 @@ pub record Unique : Type 0 where
   get-u32 : Fixes get-u32.Learnt (λ k x p. x)
   get-u64 : Fixes get-u64.Learnt (λ k x p. x)
   copy : Fixes copy.Learnt (λ k x p. p .0 .now)
+  copy-u64 : Fixes copy-u64.Learnt (λ k x p. p .0 .now)
   fill : Fixes fill.Learnt (λ k x p. p .0 .now)
   u8sum : Fixes u8sum.Learnt (λ k x p. x)
 
@@ -50,6 +52,7 @@ unique =
       get-u32 = λ k a x y p q. sole;
       get-u64 = λ k a x y p q. sole;
       copy = λ k a x y p q. sole;
+      copy-u64 = λ k a x y p q. sole;
       fill = λ k a x y p q. sole;
       u8sum = λ k a x y p q. sole;
     }

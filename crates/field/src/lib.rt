@@ -282,6 +282,18 @@ pub fn copy(out: &mut [u8], at: usize, src: &[u8])
     }
 }
 
+// The same with numbers: there are no generics.
+pub fn copy_u64(out: &mut [u64], at: usize, src: &[u64])
+    ensures { λ _. ⌜ now (out .exit) ≡ over (now (out .entry)) at (now (src .entry)) ⌝ }
+{
+    let n = fitting(out.len(), at, src.len());
+    let mut i = 0;
+    while i < n {
+        out[at + i] = src[i];
+        i += 1;
+    }
+}
+
 // Writes v n times.
 pub fn fill(out: &mut [u8], at: usize, n: usize, v: u8)
     ensures { λ _. ⌜ now (out .exit) ≡ over (now (out .entry)) at (replicate n v) ⌝ }

@@ -1,3 +1,4 @@
 pub mod Heads
 pub mod Places
 pub mod Unique
+pub mod Marks

@@ -9,8 +9,9 @@ ghost use Rattle.format.specs.Table.{tail, least};
 ghost use Rattle.format.specs.Read.{signed, own, headFault, judgeHead, typeIn, sizeIn, framed};
 ghost use Rattle.header.specs.Header.{meant};
 ghost use Rattle.frames.specs.Refusals.{refusalNumber, refusalPlace, spelledAs, judgedAs};
-ghost use Rattle.frames.specs.Frames.{ahead, numbered, named, recordIn};
+ghost use Rattle.frames.specs.Frames.{ahead, numberFrom, named, recordIn};
 use header::Table;
+use marks::Mark;
 
 // What a reading call refuses, in the order of the tests.
 pub enum Refusal {
@@ -263,17 +264,17 @@ fn size_at(t: Table, c: &[u8], p: usize) -> u32
     }
 }
 
-// The number of the record at v on the walk from a place on, where the first is 1; 0 where the walk comes to none there.
+// The number of the record at v on the walk from a mark on, which counts those before it; 0 where the walk comes to none there.
 // A length past the end is found where the walk would go on: only what is too short is tested on the way.
-pub fn number(t: Table, c: &[u8], from: usize, v: usize) -> usize
-    ensures { λ r. ⌜ r ≡ numbered 1 v (ahead (meant t) (now (c .entry)) from) ⌝ }
+pub fn number(t: Table, c: &[u8], from: Mark, v: usize) -> usize
+    ensures { λ r. ⌜ r ≡ numberFrom (meant t) (now (c .entry)) v from ⌝ }
 {
     if !framed(t, field::rest(c, v)) {
         return 0;
     }
     let min = least(t);
-    let mut p = from;
-    let mut k = 1;
+    let mut p = from.place as usize;
+    let mut k = from.nodes as usize + 1;
     while p < v {
         let n = size_at(t, c, p) as usize;
         if n < min {
@@ -288,9 +289,9 @@ pub fn number(t: Table, c: &[u8], from: usize, v: usize) -> usize
     k
 }
 
-// Whether the walk from a place on comes to v, and to a record of type ty.
-pub fn starts(t: Table, c: &[u8], from: usize, v: usize, ty: u16) -> bool
-    ensures { λ r. ⌜ r ≡ named (meant t) (ahead (meant t) (now (c .entry)) from) v ty ⌝ }
+// Whether the walk from a mark on comes to v, and to a record of type ty.
+pub fn starts(t: Table, c: &[u8], from: Mark, v: usize, ty: u16) -> bool
+    ensures { λ r. ⌜ r ≡ named (meant t) (ahead (meant t) (now (c .entry)) (from .place)) v ty ⌝ }
 {
     if number(t, c, from, v) == 0 {
         return false;

@@ -22,6 +22,7 @@ use Rattle.hmat.proofs.MemoryProximityDomain.get.Reads as MemoryProximi
 use Rattle.hmat.proofs.MemoryProximityDomain.is_fixed.Reads as MemoryProximityDomain-is-fixed
 use Rattle.hmat.proofs.MemoryProximityDomain.from_body.Reads as MemoryProximityDomain-from-body
 use Rattle.hmat.proofs.MemoryProximityDomain.put_body.Reads as MemoryProximityDomain-put-body
+use Rattle.hmat.proofs.MemoryProximityDomain.put_fields.Reads as MemoryProximityDomain-put-fields
 use Rattle.hmat.proofs.DataType.number.Reads as DataType-number
 use Rattle.hmat.proofs.MinTransferSize.number.Reads as MinTransferSize-number
 use Rattle.hmat.proofs.LocalityType.number.Reads as LocalityType-number
@@ -44,6 +45,7 @@ use Rattle.hmat.proofs.SystemLocality.entry_value.Reads as SystemLocali
 use Rattle.hmat.proofs.SystemLocality.fits.Reads as SystemLocality-fits
 use Rattle.hmat.proofs.SystemLocality.from_body.Reads as SystemLocality-from-body
 use Rattle.hmat.proofs.SystemLocality.put_body.Reads as SystemLocality-put-body
+use Rattle.hmat.proofs.SystemLocality.put_fields.Reads as SystemLocality-put-fields
 use Rattle.hmat.proofs.SystemLocality.locality.Reads as SystemLocality-locality
 use Rattle.hmat.proofs.SystemLocality.bad_field.Reads as SystemLocality-bad-field
 use Rattle.hmat.proofs.SystemLocality.is_sound.Reads as SystemLocality-is-sound
@@ -66,6 +68,7 @@ use Rattle.hmat.proofs.MemorySideCache.smbios_handle.Reads as MemorySid
 use Rattle.hmat.proofs.MemorySideCache.fits.Reads as MemorySideCache-fits
 use Rattle.hmat.proofs.MemorySideCache.from_body.Reads as MemorySideCache-from-body
 use Rattle.hmat.proofs.MemorySideCache.put_body.Reads as MemorySideCache-put-body
+use Rattle.hmat.proofs.MemorySideCache.put_fields.Reads as MemorySideCache-put-fields
 use Rattle.hmat.proofs.MemorySideCache.total_cache_levels.Reads as MemorySideCache-total-cache-levels
 use Rattle.hmat.proofs.MemorySideCache.this_cache_level.Reads as MemorySideCache-this-cache-level
 use Rattle.hmat.proofs.MemorySideCache.associativity.Reads as MemorySideCache-associativity
@@ -143,6 +146,7 @@ pub record Unique : Type 0 where
   MemoryProximityDomain-is-fixed : Fixes MemoryProximityDomain-is-fixed.Learnt (λ k x p. x)
   MemoryProximityDomain-from-body : Fixes MemoryProximityDomain-from-body.Learnt (λ k x p. x)
   MemoryProximityDomain-put-body : Fixes {S = ℕ × List ℕ} MemoryProximityDomain-put-body.Learnt (λ k x p. (x, p .1 .0 .now))
+  MemoryProximityDomain-put-fields : Fixes MemoryProximityDomain-put-fields.Learnt (λ k x p. p .1 .0 .now)
   DataType-number : Fixes DataType-number.Learnt (λ k x p. x)
   MinTransferSize-number : Fixes MinTransferSize-number.Learnt (λ k x p. x)
   LocalityType-number : Fixes LocalityType-number.Learnt (λ k x p. x)
@@ -165,6 +169,7 @@ pub record Unique : Type 0 where
   SystemLocality-fits : Fixes SystemLocality-fits.Learnt (λ k x p. x)
   SystemLocality-from-body : Fixes SystemLocality-from-body.Learnt (λ k x p. x)
   SystemLocality-put-body : Fixes {S = ℕ × List ℕ} SystemLocality-put-body.Learnt (λ k x p. (x, p .1 .0 .now))
+  SystemLocality-put-fields : Fixes SystemLocality-put-fields.Learnt (λ k x p. p .1 .0 .now)
   SystemLocality-locality : Fixes SystemLocality-locality.Learnt (λ k x p. x)
   SystemLocality-bad-field : Fixes SystemLocality-bad-field.Learnt (λ k x p. x)
   SystemLocality-is-sound : Fixes SystemLocality-is-sound.Learnt (λ k x p. x)
@@ -187,6 +192,7 @@ pub record Unique : Type 0 where
   MemorySideCache-fits : Fixes MemorySideCache-fits.Learnt (λ k x p. x)
   MemorySideCache-from-body : Fixes MemorySideCache-from-body.Learnt (λ k x p. x)
   MemorySideCache-put-body : Fixes {S = ℕ × List ℕ} MemorySideCache-put-body.Learnt (λ k x p. (x, p .1 .0 .now))
+  MemorySideCache-put-fields : Fixes MemorySideCache-put-fields.Learnt (λ k x p. p .1 .0 .now)
   MemorySideCache-total-cache-levels : Fixes MemorySideCache-total-cache-levels.Learnt (λ k x p. x)
   MemorySideCache-this-cache-level : Fixes MemorySideCache-this-cache-level.Learnt (λ k x p. x)
   MemorySideCache-associativity : Fixes MemorySideCache-associativity.Learnt (λ k x p. x)
@@ -207,6 +213,7 @@ unique =
       MemoryProximityDomain-is-fixed = λ k a x y p q. sole;
       MemoryProximityDomain-from-body = λ k a x y p q. one-domain x y _;
       MemoryProximityDomain-put-body = λ k a x y p q l m. sole-pair (sole (l .1) (m .1)) (sole (l .0) (m .0));
+      MemoryProximityDomain-put-fields = λ k a x y p q. sole;
       DataType-number = λ k a x y p q. sole;
       MinTransferSize-number = λ k a x y p q. sole;
       LocalityType-number = λ k a x y p q. sole;
@@ -229,6 +236,7 @@ unique =
       SystemLocality-fits = λ k a x y p q. sole;
       SystemLocality-from-body = λ k a x y p q. one-matrix-body x y _;
       SystemLocality-put-body = λ k a x y p q l m. sole-pair (sole (l .1) (m .1)) (sole (l .0) (m .0));
+      SystemLocality-put-fields = λ k a x y p q. sole;
       SystemLocality-locality = λ k a x y p q. sole;
       SystemLocality-bad-field = λ k a x y p q. sole;
       SystemLocality-is-sound = λ k a x y p q. sole;
@@ -251,6 +259,7 @@ unique =
       MemorySideCache-fits = λ k a x y p q. sole;
       MemorySideCache-from-body = λ k a x y p q. one-side x y _;
       MemorySideCache-put-body = λ k a x y p q l m. sole-pair (sole (l .1) (m .1)) (sole (l .0) (m .0));
+      MemorySideCache-put-fields = λ k a x y p q. sole;
       MemorySideCache-total-cache-levels = λ k a x y p q. sole;
       MemorySideCache-this-cache-level = λ k a x y p q. sole;
       MemorySideCache-associativity = λ k a x y p q. sole;

@@ -18,7 +18,7 @@ ghost use Rattle.format.specs.Field.{callsOfNode, badIn, badField};
 ghost use Rattle.format.specs.Row.{matrices, sides, column, formIn};
 ghost use Rattle.format.specs.Read.{sound};
 ghost use Rattle.hmat.specs.Numbers.{dataTypeNumber, transferNumber, localityNumber, levelNumber, associativityNumber, policyNumber};
-ghost use Rattle.hmat.specs.Hmat.{domainOf, domainNode, matrixOf, matrixWith, matrixForm, matrixHead, matrixFront, matrixUnset, matrixNode, sideOf, sideForm, sideFields, sideHead, sideFront, trimmed, grown, matrixCall};
+ghost use Rattle.hmat.specs.Hmat.{domainOf, domainShown, domainNode, matrixOf, matrixWith, matrixForm, matrixHead, matrixFront, matrixUnset, matrixNode, matrixShown, sideOf, sideForm, sideFields, sideHead, sideFront, sideShown, trimmed, grown, matrixCall};
 ghost use Rattle.hmat.specs.Settings.{valueFields, valueCall, cellFields, goodCell, handleFields};
 
 // No slice is longer, so nothing stands at this place.
@@ -53,6 +53,9 @@ impl MemoryProximityDomain {
     pub const TYPE: u16 = 0;
 
     pub const LEN: usize = 40;
+
+    // How many values a reading call shows.
+    pub const FIELDS: usize = 2;
 
     pub const DOMAIN_VALID: u16 = 1;
 
@@ -163,6 +166,17 @@ impl MemoryProximityDomain {
         field::put_all(out, at, &Self::BODY_WIDTHS, &vs);
         1 + Self::BODY
     }
+
+    // Writes the values that a reading call shows, in their order.
+    pub fn put_fields(self, answer: &mut [u64], at: usize)
+        ensures { λ _. ⌜ now (answer .exit) ≡ over (now (answer .entry)) at (domainShown self) ⌝ }
+    {
+        let vs = [
+            self.proximity_domain_initiator as u64,
+            self.proximity_domain_memory as u64,
+        ];
+        field::copy_u64(answer, at, &vs);
+    }
 }
 
 // ---- row 6
@@ -270,6 +284,9 @@ impl SystemLocality {
 
     // without values and cells
     pub const LEN: usize = 32;
+
+    // How many values a reading call shows.
+    pub const FIELDS: usize = 6;
 
     // the most initiators, and the most targets
     const MAX_COUNT: u32 = 255;
@@ -566,6 +583,21 @@ impl SystemLocality {
         1 + Self::BODY
     }
 
+    // Writes the values that a reading call shows, in their order.
+    pub fn put_fields(self, answer: &mut [u64], at: usize)
+        ensures { λ _. ⌜ now (answer .exit) ≡ over (now (answer .entry)) at (matrixShown self) ⌝ }
+    {
+        let vs = [
+            self.flags as u64,
+            self.data_type as u64,
+            self.min_transfer_size as u64,
+            self.initiators as u64,
+            self.targets as u64,
+            self.entry_base_unit,
+        ];
+        field::copy_u64(answer, at, &vs);
+    }
+
     // What the lowest two bits of the flags say: which level the matrix is about.
     pub fn locality(self) -> u8
         ensures { λ r. ⌜ r ≡ bits (self .flags) 0 2 ⌝ }
@@ -824,6 +856,9 @@ impl MemorySideCache {
     // without handles
     pub const LEN: usize = 32;
 
+    // How many values a reading call shows.
+    pub const FIELDS: usize = 4;
+
     pub const MAX_HANDLES: u16 = 65535;
 
     // the highest level, associativity and policy
@@ -989,6 +1024,19 @@ impl MemorySideCache {
         ];
         field::put_all(out, at, &Self::BODY_WIDTHS, &vs);
         1 + Self::BODY
+    }
+
+    // Writes the values that a reading call shows, in their order.
+    pub fn put_fields(self, answer: &mut [u64], at: usize)
+        ensures { λ _. ⌜ now (answer .exit) ≡ over (now (answer .entry)) at (sideShown self) ⌝ }
+    {
+        let vs = [
+            self.proximity_domain as u64,
+            self.cache_size,
+            self.attributes as u64,
+            self.smbios_handles as u64,
+        ];
+        field::copy_u64(answer, at, &vs);
     }
 
     // The parts of the attributes: levels, associativity and policy, four bits each, and the line size.

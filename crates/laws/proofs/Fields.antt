@@ -5,7 +5,7 @@ use mathlib.Core.List.{List, [], _∷_, _++_, map}
 use mathlib.Core.Bool.{Bool, true, false, not}
 use native.Mathlib.Omega.{arith}
 use native.Mathlib.Nat.{mul-pos, one-le-pow, zero-lt-suc}
-use lib.ListN.{length, drop}
+use lib.ListN.{length, take, drop}
 use lib.Dec.{eqb, leb}
 use borrow.Author.Tests.{eq-eqb, ne-eqb, le-leb, lt-leb, not-true, not-false}
 use Rattle.format.specs.Bytes.{pick, both, all, le, value, join, part}
@@ -19,7 +19,7 @@ use Rattle.format.specs.Field.{firstBad, badField}
 use Rattle.laws.specs.Numbers.{numbers}
 use Rattle.laws.specs.Offsets.{fieldsAt, fixedAt}
 use Rattle.laws.proofs.Offsets.{fields-at, fixed-at}
-use Rattle.laws.proofs.Bytes.{value-parts}
+use Rattle.laws.proofs.Bytes.{value-parts, part-take}
 use Rattle.laws.proofs.Lays.{length-lay}
 use Rattle.laws.proofs.Joins.{lay-join}
 use Rattle.laws.proofs.Shapes.{Plain}
@@ -82,6 +82,15 @@ fixed-now f bs = fixed-at (layout f) bs 0
 
 pub fields-now : (k : Kind) (bs : List ℕ) → fieldsWith asIs (body k) bs ≡ fieldsAt asIs (body k) bs 0
 fields-now k bs = fields-at asIs (body k) bs 0
+
+-- bytes behind the fields do not matter
+fields-window : (is : List Item) (bs : List ℕ) (n p : ℕ) → p + width is ≤ n → fieldsAt asIs is (take n bs) p ≡ fieldsAt asIs is bs p
+unfolding width
+fields-window [] bs n p h = refl
+fields-window (i ∷ is) bs n p h = rw (part-take bs n p (wide i) (omega arith), fields-window is bs n (p + wide i) (omega arith))
+
+pub body-window : (k : Kind) (bs : List ℕ) (n : ℕ) → width (body k) ≤ n → fieldsWith asIs (body k) (take n bs) ≡ fieldsWith asIs (body k) bs
+body-window k bs n h = fields-now k (take n bs) ∙ fields-window (body k) bs n 0 (omega arith) ∙ sym (fields-now k bs)
 
 pub body-at : (k : Kind) (f : Form) (bs : List ℕ) → node f (fieldsWith asIs (body k) bs) ≡ node f (fieldsAt asIs (body k) bs 0)
 body-at k f bs = rw (fields-now k bs)

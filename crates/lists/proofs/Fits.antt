@@ -13,7 +13,7 @@ use Rattle.format.specs.Row.{Row}
 use Rattle.format.specs.Node.{Entry}
 use Rattle.format.specs.Read.{signed, lengthIn, own, typeIn, sizeIn, framed, Frames, ended, badFrame, framedAt, frames, Seen, entryOf, seenAs, judgeHead, walk, walked, accept}
 use Rattle.format.specs.Out.{every}
-use Rattle.format.specs.Listing.{whether, recordLines, linesOf, listing}
+use Rattle.format.specs.Listing.{whether, refusedWords, firstLine, recordLine, recordLines, linesOf, listing}
 use Rattle.laws.proofs.Bytes.{bytes-take, bytes-drop}
 use Rattle.laws.proofs.Finds.{then-given}
 use Rattle.laws.proofs.Masks.{walk-first}
@@ -23,8 +23,7 @@ use Rattle.read.proofs.Listing.{first-low, body-room, all-records}
 use Rattle.text.specs.Text.{laid}
 use Rattle.text.proofs.Laws.{laid-whole}
 use Rattle.text.proofs.Digits.{digits-most, digits-few}
-use Rattle.lists.specs.Lines.{firstLine, recordLine}
-use Rattle.lists.proofs.Turns.{lineOf, first-of, given-lines, lines-end}
+use Rattle.lists.proofs.Turns.{lineOf}
 
 -- ---- one line
 
@@ -102,21 +101,22 @@ module _ (b : List ℕ) (h : Bytes b) (l : length b ≤ 65536) where
           line-short p (typeIn t bs) (length bs) (seenAs t (at b 8) every p bs .row) (omega arith) (omega (arith, m)) (omega (arith, n))
 
   all-short : (n p : ℕ) → p ≤ 65536 → length (recordLines (seenFrom b every n p)) ≤ 26 * n
-  unfolding seenFrom
-  all-short zero p q = rw (lines-end b 0 p (omega arith)) (omega arith)
+  unfolding seenFrom recordLines
+  all-short zero p q = omega arith
   all-short (suc n) p q =
       let r = p + length (bodyAt b p) in
-      rw (first-of (seenAt b every p) (seenFrom b every n r)) (simp length-append (omega (arith, seen-short p q, all-short n r (omega (arith, body-room b p)))))
+      simp length-append (omega (arith, seen-short p q, all-short n r (omega (arith, body-room b p))))
 
   first-short : (count : ℕ) → length (firstLine b count) ≤ 68
   unfolding firstLine
   first-short count = simp (length-append, length-take) (omega (arith, digits-most 20 (at b 8), digits-most 20 (lengthIn b), digits-most 20 count))
 
   refused-short : (n p : ℕ) → length (linesOf b (refused n p)) ≤ 50
-  unfolding linesOf
+  unfolding linesOf refusedWords
   refused-short n p = simp length-append (omega (arith, digits-most 20 n, digits-most 20 p))
 
   lines-fit : length (linesOf b (accept b every)) ≤ 1114112
+  unfolding linesOf
   lines-fit = by (accept b every) refl
     where
       by : (w : Answer (List Seen)) → accept b every ≡ w → length (linesOf b w) ≤ 1114112
@@ -124,7 +124,7 @@ module _ (b : List ℕ) (h : Bytes b) (l : length b ≤ 65536) where
       by (given ss) e =
           let r = all-short (length ss) (firstPlace b) (omega (arith, first-low b)) in
           let z = ap (λ (us : List Seen). length (recordLines us)) (all-records b every e) in
-          rw (given-lines b ss) (simp length-append (omega (arith, first-short (length ss), r, z, count-low b every e)))
+          simp length-append (omega (arith, first-short (length ss), r, z, count-low b every e))
 
 -- the first bytes of the buffer, as many as `lines` answers for what was read, are the listing
 pub printed : (b : List ℕ) → Bytes b → (out : List ℕ) → length out ≡ 1114112 → {m : ℕ} {x : List ℕ}

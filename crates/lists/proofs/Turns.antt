@@ -1,7 +1,7 @@
 -- The lines of a listing one after the other: an accepted table's records are those that one sees going from place to place, and each has a line.
 use mathlib.Core.Path.{_≡_, refl, sym, ap, _∙_}
 use Prim.Native.Nat.{ℕ, zero, suc, _+_, _-_, _≤_, _<_}
-use mathlib.Core.List.{List, [], _∷_, _++_, append-assoc}
+use mathlib.Core.List.{List, [], _∷_, _++_}
 use native.Mathlib.Omega.{arith}
 use lib.ListN.{length}
 use denote.Enum.Declared.{tagOf}
@@ -9,17 +9,15 @@ use types.Run.{OneOf, miss}
 use Rattle.format.specs.Bytes.{Answer, refused, given}
 use Rattle.format.specs.Read.{Seen, accept, readingOf}
 use Rattle.format.specs.Out.{every}
-use Rattle.format.specs.Listing.{whether, recordLines, linesOf}
+use Rattle.format.specs.Listing.{whether, refusedWords, firstLine, recordLine, recordLines, linesOf}
 use Rattle.laws.proofs.Finds.{then-given}
 use Rattle.read.proofs.Node.{the-type}
 use Rattle.read.specs.declared.Node.{Node}
 use Rattle.read.specs.declared.Node.the-variants.{Processor, Cache, Memory, Initiator, Rintc, Domain, Matrix, Side, Unknown}
 use Rattle.read.specs.declared.Shown.{Shown}
 use Rattle.read.specs.Answers.{rowIn, shownAs}
-use Rattle.read.specs.Places.{counted, bodyAt, seenAt, firstPlace, seenFrom}
+use Rattle.read.specs.Places.{counted, seenAt, firstPlace, seenFrom}
 use Rattle.read.proofs.Listing.{shown-next, all-records}
-use Rattle.text.specs.Text.{refusedWords}
-use Rattle.lists.specs.Lines.{firstLine, recordLine}
 
 -- the tags are those of the nodes that are known
 pub known-line : (n : Node) → OneOf (0 ∷ 1 ∷ 2 ∷ 3 ∷ 4 ∷ 5 ∷ 6 ∷ 7 ∷ []) (tagOf the-type n) → whether (rowIn n) ≡ 32 ∷ 107 ∷ 110 ∷ 111 ∷ 119 ∷ 110 ∷ 10 ∷ []
@@ -37,10 +35,6 @@ known-line Unknown h = absurd (miss (0 ∷ 1 ∷ 2 ∷ 3 ∷ 4 ∷ 5 ∷ 6 ∷ 7
 abbrev pub lineOf : Seen → List ℕ
 lineOf s = recordLine (s .place) (s .type) (length (s .body)) (s .row)
 
-pub first-of : (s : Seen) (ss : List Seen) → recordLines (s ∷ ss) ≡ lineOf s ++ recordLines ss
-unfolding recordLines recordLine
-first-of s ss = simp append-assoc
-
 module _ (b : List ℕ) where
   shown-line : (p : ℕ) (s : Shown) → shownAs 0 s ≡ readingOf 0 (seenAt b every p) → recordLine (s .place) (s .ty) (s .length) (rowIn (s .node)) ≡ lineOf (seenAt b every p)
   shown-line p s e = cc
@@ -48,39 +42,30 @@ module _ (b : List ℕ) where
   -- a turn of the loop over records: the line of the one that is shown, and those of the others
   pub lines-turn : (left p : ℕ) (s : Shown) → 0 < left → shownAs 0 s ≡ readingOf 0 (seenAt b every p)
       → recordLines (seenFrom b every left p) ≡ recordLine (s .place) (s .ty) (s .length) (rowIn (s .node)) ++ recordLines (seenFrom b every (left - 1) (p + s .length))
-  unfolding seenFrom
+  unfolding seenFrom recordLines
   lines-turn zero p s l e = absurd (omega arith)
   lines-turn (suc k) p s l e =
       let n : suc k - 1 ≡ k = omega arith in
-      rw (n, shown-next b every p s e, shown-line p s e) (first-of (seenAt b every p) (seenFrom b every k (p + length (bodyAt b p))))
+      rw (n, shown-next b every p s e, shown-line p s e)
 
   pub lines-end : (left p : ℕ) → left ≤ 0 → recordLines (seenFrom b every left p) ≡ []
   unfolding seenFrom recordLines
   lines-end zero p l = refl
   lines-end (suc k) p l = absurd (omega arith)
 
-  pub given-lines : (ss : List Seen) → linesOf b (given ss) ≡ firstLine b (length ss) ++ recordLines ss
-  unfolding linesOf firstLine
-  given-lines ss = simp append-assoc
-
-  refused-line : (k p : ℕ) → refusedWords k p ++ (10 ∷ []) ≡ linesOf b (refused k p)
-  unfolding linesOf refusedWords
-  refused-line k p = simp append-assoc
-
   -- the lines of an accepted table
   pub lines-given : (count : ℕ) → given count ≡ counted (accept b every) → firstLine b count ++ recordLines (seenFrom b every count (firstPlace b)) ≡ linesOf b (accept b every)
+  unfolding linesOf
   lines-given count is =
       let (ss, a, h) = then-given (accept b every) (λ ss. given (length ss)) (sym is) in
       let m : length ss ≡ count = cc in
-      rw (a, given-lines ss, m) (ap (λ (us : List Seen). firstLine b count ++ recordLines us) (sym (all-records b every a ∙ rw m)))
+      rw (a, m) (ap (λ (us : List Seen). firstLine b count ++ recordLines us) (sym (all-records b every a ∙ rw m)))
 
   -- the line of one that is refused
   pub lines-refused : (k p : ℕ) → refused k p ≡ counted (accept b every) → refusedWords k p ++ (10 ∷ []) ≡ linesOf b (accept b every)
+  unfolding linesOf
   lines-refused k p is = by (accept b every) is
     where
       by : (w : Answer (List Seen)) → refused k p ≡ counted w → refusedWords k p ++ (10 ∷ []) ≡ linesOf b w
       by (given ss) e = cc
-      by (refused n q) e =
-          let i : n ≡ k = cc in
-          let j : q ≡ p = cc in
-          rw (i, j) (refused-line k p)
+      by (refused n q) e = cc

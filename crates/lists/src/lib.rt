@@ -2,11 +2,10 @@
 ghost use mathlib.Core.Path.{_≡_};
 ghost use Rattle.format.specs.Read.{accept};
 ghost use Rattle.format.specs.Out.{every};
-ghost use Rattle.format.specs.Listing.{whether, recordLines, linesOf};
+ghost use Rattle.format.specs.Listing.{whether, firstLine, recordLine, recordLines, linesOf};
 ghost use Rattle.read.specs.Places.{firstPlace, seenFrom};
 ghost use Rattle.read.specs.Answers.{rowIn};
 ghost use Rattle.text.specs.Text.{laid};
-ghost use Rattle.lists.specs.Lines.{firstLine, recordLine};
 use header::TableHeader;
 use read::Accepted;
 use read::Node;

@@ -1,28 +1,25 @@
--- Two outcomes of a function that meet its contract show the same: each contract equates the result with one thing.
+-- Two outcomes of a function that meet its contract show the same: each contract equates the result, or the marks after, with one thing.
 use Rattle.laws.specs.Unique.{Fixes}
 use Rattle.laws.proofs.Sole.{sole}
-use Rattle.marks.proofs.Marks.new.Reads as Marks-new
-use Rattle.marks.proofs.Marks.toward_parent.Reads as Marks-toward-parent
-use Rattle.marks.proofs.Marks.toward_cache.Reads as Marks-toward-cache
-use Rattle.marks.proofs.Marks.at_parent.Reads as Marks-at-parent
-use Rattle.marks.proofs.Marks.at_cache.Reads as Marks-at-cache
+use Rattle.marks.proofs.spread.Reads as spread
+use Rattle.marks.proofs.Mark.note.Reads as Mark-note
+use Rattle.marks.proofs.Mark.toward_node.Reads as Mark-toward-node
+use Rattle.marks.proofs.Mark.toward_place.Reads as Mark-toward-place
 
 -- ---- the contracts
 
 -- for each public function: what its contract fixes of the result `x` and of the parameters afterwards, `p`
 pub record Unique : Type 0 where
-  Marks-new : Fixes Marks-new.Learnt (λ k x p. x)
-  Marks-toward-parent : Fixes Marks-toward-parent.Learnt (λ k x p. x)
-  Marks-toward-cache : Fixes Marks-toward-cache.Learnt (λ k x p. x)
-  Marks-at-parent : Fixes Marks-at-parent.Learnt (λ k x p. x)
-  Marks-at-cache : Fixes Marks-at-cache.Learnt (λ k x p. x)
+  spread : Fixes spread.Learnt (λ k x p. x)
+  Mark-note : Fixes Mark-note.Learnt (λ k x p. p .1 .0 .now)
+  Mark-toward-node : Fixes Mark-toward-node.Learnt (λ k x p. x)
+  Mark-toward-place : Fixes Mark-toward-place.Learnt (λ k x p. x)
 
 pub unique : Unique
 unique =
     record {
-      Marks-new = λ k a x y p q. sole;
-      Marks-toward-parent = λ k a x y p q. sole;
-      Marks-toward-cache = λ k a x y p q. sole;
-      Marks-at-parent = λ k a x y p q. sole;
-      Marks-at-cache = λ k a x y p q. sole;
+      spread = λ k a x y p q. sole;
+      Mark-note = λ k a x y p q. sole;
+      Mark-toward-node = λ k a x y p q. sole;
+      Mark-toward-place = λ k a x y p q. sole;
     }

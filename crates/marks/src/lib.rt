@@ -1,96 +1,113 @@
-// Marks: nodes of a PPTT that were named, so that a walk to what a reference names need not start at the first record.
-// A place is one in a recipe or in a table; that a mark is right there is for the pass that keeps it to say, and marks keep it right.
+// Marks: records that a pass over a PPTT has come to, so that a walk to what a reference names need not start at the first one.
+// A pass keeps them under a key, which is what its references say: a number of nodes, or a place. As many neighbouring keys share a mark
+// as a shift makes one of. That a mark is right is for the pass that keeps it to say, and marks keep it right, wherever they stand.
 ghost use mathlib.Core.Path.{_≡_};
-ghost use Rattle.marks.specs.Marks.{all, upTo, towardCache, withParent, withCache};
+ghost use Prim.Native.Nat.{_-_};
+ghost use Rattle.marks.specs.Marks.{spreadOf, kept, markIn, noted, under, towardNode, towardPlace};
+
+// How many marks a pass keeps: for a short table, and for a long one.
+pub const FEW: usize = 1024;
+
+pub const MANY: usize = 4096;
 
 // A place, and how many nodes stand before it.
 pub struct Mark {
-    pub nodes: usize,
-    pub place: usize,
+    pub nodes: u32,
+    pub place: u32,
+}
+
+// The last of n keys.
+fn last_of(n: usize) -> usize
+    ensures { λ r. ⌜ r ≡ n - 1 ⌝ }
+{
+    if n == 0 {
+        return 0;
+    }
+    n - 1
+}
+
+// The least shift that makes n keys no more than so many, as far as a word reaches.
+pub fn spread(n: usize, count: usize) -> u32
+    ensures { λ r. ⌜ r ≡ spreadOf 63 0 (n - 1) count ⌝ }
+{
+    let last = last_of(n);
+    let mut shift: u32 = 0;
+    while shift < 63 {
+        if last >> shift < count {
+            return shift;
+        }
+        shift += 1;
+    }
+    shift
 }
 
 impl Mark {
-    // From where to walk to node i, counted from 0: from here, unless that is past it; then from the first record.
-    fn up_to(self, first: Mark, i: usize) -> Self
-        ensures { λ r. ⌜ r ≡ upTo first i self ⌝ }
+    // Both numbers in one; 0 is no mark, since no record stands at 0.
+    fn kept(self) -> u64
+        ensures { λ r. ⌜ r ≡ kept self ⌝ }
     {
-        if i < self.nodes {
-            return first;
-        }
-        self
+        self.nodes as u64 * 4294967296 + self.place as u64
     }
-}
 
-// The node that was named last as a parent, the farthest one named as a cache, and the last one named before that.
-pub struct Marks {
-    pub parent: Mark,
-    pub cache: Mark,
-    pub back: Mark,
-}
-
-impl Marks {
-    // All at one place.
-    pub fn new(first: Mark) -> Self
-        ensures { λ r. ⌜ r ≡ all first ⌝ }
+    fn of(number: u64) -> Self
+        ensures { λ r. ⌜ r ≡ markIn number ⌝ }
     {
         Self {
-            parent: first,
-            cache: first,
-            back: first,
+            nodes: (number / 4294967296) as u32,
+            place: (number % 4294967296) as u32,
         }
     }
 
-    // From where to walk to node i, which is named as a parent.
-    pub fn toward_parent(self, first: Mark, i: usize) -> Mark
-        ensures { λ r. ⌜ r ≡ upTo first i (self .parent) ⌝ }
+    // Keeps the mark under a key, unless one is kept there: the first of those that share it serves them all.
+    pub fn note(self, marks: &mut [u64], shift: u32, key: usize)
+        ensures { λ _. ⌜ now (marks .exit) ≡ noted self shift key (now (marks .entry)) ⌝ }
     {
-        let parent = self.parent;
-        parent.up_to(first, i)
+        let i = key >> (shift % 64);
+        if marks.len() <= i {
+            return;
+        }
+        if marks[i] != 0 {
+            return;
+        }
+        marks[i] = self.kept();
     }
 
-    // From where to walk to node i, which is named as a cache: on from the farthest, or before it.
-    pub fn toward_cache(self, first: Mark, i: usize) -> Mark
-        ensures { λ r. ⌜ r ≡ towardCache first i self ⌝ }
+    // The mark under a key.
+    fn under(marks: &[u64], shift: u32, key: usize) -> Self
+        ensures { λ r. ⌜ r ≡ under (now (marks .entry)) shift key ⌝ }
     {
-        let cache = self.cache;
-        let back = self.back;
-        if i < cache.nodes {
-            return back.up_to(first, i);
+        let i = key >> (shift % 64);
+        if marks.len() <= i {
+            return Self::of(0);
         }
-        cache
+        Self::of(marks[i])
     }
 
-    // With the parent at a mark.
-    pub fn at_parent(self, mark: Mark) -> Self
-        ensures { λ r. ⌜ r ≡ withParent mark self ⌝ }
+    // From where to walk to node i, counted from 0: from the mark under its number, unless there is none or it is past it; then from here.
+    pub fn toward_node(self, marks: &[u64], shift: u32, i: u32) -> Self
+        ensures { λ r. ⌜ r ≡ towardNode self shift i (now (marks .entry)) ⌝ }
     {
-        let cache = self.cache;
-        let back = self.back;
-        Self {
-            parent: mark,
-            cache,
-            back,
+        let mark = Self::under(marks, shift, i as usize);
+        if mark.place == 0 {
+            return self;
         }
+        if i < mark.nodes {
+            return self;
+        }
+        mark
     }
 
-    // With the cache that is node i at a mark.
-    pub fn at_cache(self, i: usize, mark: Mark) -> Self
-        ensures { λ r. ⌜ r ≡ withCache i mark self ⌝ }
+    // The same to a place, from the mark under it.
+    pub fn toward_place(self, marks: &[u64], shift: u32, v: usize) -> Self
+        ensures { λ r. ⌜ r ≡ towardPlace self shift v (now (marks .entry)) ⌝ }
     {
-        let parent = self.parent;
-        let cache = self.cache;
-        let back = self.back;
-        if i < cache.nodes {
-            return Self {
-                parent,
-                cache,
-                back: mark,
-            };
+        let mark = Self::under(marks, shift, v);
+        if mark.place == 0 {
+            return self;
         }
-        Self {
-            parent,
-            cache: mark,
-            back,
+        if v < mark.place as usize {
+            return self;
         }
+        mark
     }
 }

@@ -17,7 +17,7 @@ use Rattle.format.specs.Node.{node, bytes}
 use Rattle.format.specs.Kind.{Processor, body}
 use Rattle.format.specs.Read.{shown}
 use Rattle.laws.specs.Offsets.{fieldsAt}
-use Rattle.laws.proofs.Bytes.{length-le, length-over, over-over, over-past}
+use Rattle.laws.proofs.Bytes.{length-le, length-over, part-take, over-over, over-past}
 use Rattle.laws.proofs.Tests.{both-right}
 use Rattle.laws.proofs.Lays.{both-true, length-lay}
 use Rattle.laws.proofs.Over.{over-within-first}
@@ -99,6 +99,11 @@ pub processor-fixed : (n : ℕ) (bs : List ℕ)
     → fixedOk (layout (processor n)) bs ≡ all (eqb (value (part bs 0 1)) 0 ∷ eqb (value (part bs 1 1)) (size (processor n)) ∷ eqb (value (part bs 2 2)) 0 ∷ eqb (value (part bs 16 4)) n ∷ [])
 unfolding layout
 processor-fixed n bs = rw (fixed-now, fixed-list (to 1) (λ x. refl), both-right)
+
+-- they stand in the first 20 bytes
+pub fixed-window : (n : ℕ) (bs : List ℕ) → fixedOk (layout (processor n)) (take 20 bs) ≡ fixedOk (layout (processor n)) bs
+fixed-window n bs =
+    rw (processor-fixed n (take 20 bs), processor-fixed n bs, part-take bs 20 0 1 (omega arith), part-take bs 20 1 1 (omega arith), part-take bs 20 2 2 (omega arith), part-take bs 20 16 4 (omega arith))
 
 fourth : (a b c d : Bool) → all (a ∷ b ∷ c ∷ d ∷ []) ≡ true → d ≡ true
 fourth a b c d h = both-true c d (both-true b (both c d) (both-true a (both b (both c d)) h .1) .1) .1

@@ -28,6 +28,7 @@ use Rattle.pptt.proofs.ProcessorNode.is_fixed.Reads as ProcessorNode-is
 use Rattle.pptt.proofs.ProcessorNode.parent_in.Reads as ProcessorNode-parent-in
 use Rattle.pptt.proofs.ProcessorNode.from_body.Reads as ProcessorNode-from-body
 use Rattle.pptt.proofs.ProcessorNode.put_body.Reads as ProcessorNode-put-body
+use Rattle.pptt.proofs.ProcessorNode.put_fields.Reads as ProcessorNode-put-fields
 use Rattle.pptt.proofs.ProcessorNode.put.Reads as ProcessorNode-put
 use Rattle.pptt.proofs.ProcessorNode.add_cache.Reads as ProcessorNode-add-cache
 use Rattle.pptt.proofs.ProcessorNode.get.Reads as ProcessorNode-get
@@ -54,6 +55,7 @@ use Rattle.pptt.proofs.CacheNode.next_level_of.Reads as CacheNode-next-
 use Rattle.pptt.proofs.CacheNode.next_level_in.Reads as CacheNode-next-level-in
 use Rattle.pptt.proofs.CacheNode.from_body.Reads as CacheNode-from-body
 use Rattle.pptt.proofs.CacheNode.put_body.Reads as CacheNode-put-body
+use Rattle.pptt.proofs.CacheNode.put_fields.Reads as CacheNode-put-fields
 use Rattle.pptt.proofs.CacheNode.allocation.Reads as CacheNode-allocation
 use Rattle.pptt.proofs.CacheNode.cache_type.Reads as CacheNode-cache-type
 use Rattle.pptt.proofs.CacheNode.write_policy.Reads as CacheNode-write-policy
@@ -113,6 +115,7 @@ pub record Unique : Type 0 where
   ProcessorNode-parent-in : Fixes ProcessorNode-parent-in.Learnt (λ k x p. x)
   ProcessorNode-from-body : Fixes ProcessorNode-from-body.Learnt (λ k x p. x)
   ProcessorNode-put-body : Fixes {S = ℕ × List ℕ} ProcessorNode-put-body.Learnt (λ k x p. (x, p .1 .0 .now))
+  ProcessorNode-put-fields : Fixes ProcessorNode-put-fields.Learnt (λ k x p. p .1 .0 .now)
   ProcessorNode-put : Fixes ProcessorNode-put.Learnt (λ k x p. p .1 .0 .now)
   ProcessorNode-add-cache : Fixes ProcessorNode-add-cache.Learnt (λ k x p. p .0 .now)
   ProcessorNode-get : Fixes ProcessorNode-get.Learnt (λ k x p. x)
@@ -139,6 +142,7 @@ pub record Unique : Type 0 where
   CacheNode-next-level-in : Fixes CacheNode-next-level-in.Learnt (λ k x p. x)
   CacheNode-from-body : Fixes CacheNode-from-body.Learnt (λ k x p. x)
   CacheNode-put-body : Fixes {S = ℕ × List ℕ} CacheNode-put-body.Learnt (λ k x p. (x, p .1 .0 .now))
+  CacheNode-put-fields : Fixes CacheNode-put-fields.Learnt (λ k x p. p .1 .0 .now)
   CacheNode-allocation : Fixes CacheNode-allocation.Learnt (λ k x p. x)
   CacheNode-cache-type : Fixes CacheNode-cache-type.Learnt (λ k x p. x)
   CacheNode-write-policy : Fixes CacheNode-write-policy.Learnt (λ k x p. x)
@@ -162,6 +166,7 @@ unique =
       ProcessorNode-parent-in = λ k a x y p q. one-parent x y _;
       ProcessorNode-from-body = λ k a x y p q. one-alone x y _;
       ProcessorNode-put-body = λ k a x y p q l m. sole-pair (sole (l .1) (m .1)) (sole (l .0) (m .0));
+      ProcessorNode-put-fields = λ k a x y p q. sole;
       ProcessorNode-put = λ k a x y p q. sole;
       ProcessorNode-add-cache = λ k a x y p q. sole;
       ProcessorNode-get = λ k a x y p q. one-processor x y _;
@@ -188,6 +193,7 @@ unique =
       CacheNode-next-level-in = λ k a x y p q. one-level x y _;
       CacheNode-from-body = λ k a x y p q. one-cache x y _;
       CacheNode-put-body = λ k a x y p q l m. sole-pair (sole (l .1) (m .1)) (sole (l .0) (m .0));
+      CacheNode-put-fields = λ k a x y p q. sole;
       CacheNode-allocation = λ k a x y p q. sole;
       CacheNode-cache-type = λ k a x y p q. sole;
       CacheNode-write-policy = λ k a x y p q. sole;

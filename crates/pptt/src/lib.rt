@@ -5,7 +5,7 @@
 ghost use mathlib.Core.Path.{_≡_};
 ghost use mathlib.Core.List.{[]};
 ghost use mathlib.Core.Bool.{true};
-ghost use Prim.Native.Nat.{_-_, _/_};
+ghost use Prim.Native.Nat.{_-_, _/_, _≤_};
 ghost use lib.Bits.{bitOr};
 ghost use lib.Dec.{eqb};
 ghost use lib.ListN.{length, drop, replicate};
@@ -67,6 +67,9 @@ impl ProcessorNode {
 
     // without resources
     pub const LEN: usize = 20;
+
+    // How many values a reading call shows.
+    pub const FIELDS: usize = 4;
 
     pub const MAX_RESOURCES: u8 = 58;
 
@@ -177,21 +180,32 @@ impl ProcessorNode {
         len % Resource::LEN == 0
     }
 
-    // Zeros, fixed values and the inner count of a record; no field has a range.
+    // Zeros, fixed values and the inner count in the fixed part of a record of n resources.
+    fn is_head(head: &[u8], n: usize) -> bool
+        requires { ⌜ n ≤ 4611686018427387898 ⌝ }
+        ensures { λ r. ⌜ r ≡ fixedOk (layout (processor n)) (now (head .entry)) ⌝ }
+    {
+        if field::get_u8(head, 0) != Self::TYPE {
+            return false;
+        }
+        if field::get_u8(head, 1) as usize != Self::LEN + Resource::LEN * n {
+            return false;
+        }
+        if field::get_u16(head, 2) != 0 {
+            return false;
+        }
+        field::get_u32(head, Self::COUNT_OFFSET) as usize == n
+    }
+
+    // The same of a record; no field has a range. A window of constant length saves the test of each place.
     pub fn is_fixed(row: &[u8]) -> bool
         ensures { λ r. ⌜ r ≡ fixedOk (layout (formIn processors (now (row .entry)))) (now (row .entry)) ⌝ }
     {
         let n = Self::resources_in(row.len());
-        if field::get_u8(row, 0) != Self::TYPE {
-            return false;
+        if row.len() < Self::LEN {
+            return Self::is_head(row, n);
         }
-        if field::get_u8(row, 1) as usize != Self::LEN + Resource::LEN * n {
-            return false;
-        }
-        if field::get_u16(row, 2) != 0 {
-            return false;
-        }
-        field::get_u32(row, Self::COUNT_OFFSET) as usize == n
+        Self::is_head(&row[..Self::LEN], n)
     }
 
     // The parent in a body.
@@ -226,6 +240,19 @@ impl ProcessorNode {
         ];
         field::put_all(out, at, &Self::BODY_WIDTHS, &vs);
         1 + Self::BODY
+    }
+
+    // Writes the values that a reading call shows, in their order.
+    pub fn put_fields(self, answer: &mut [u64], at: usize)
+        ensures { λ _. ⌜ now (answer .exit) ≡ over (now (answer .entry)) at (processorShown self) ⌝ }
+    {
+        let vs = [
+            self.flags as u64,
+            self.parent.0 as u64,
+            self.acpi_processor_id as u64,
+            self.resources as u64,
+        ];
+        field::copy_u64(answer, at, &vs);
     }
 
     // Writes the fixed part of the record.
@@ -539,6 +566,9 @@ impl CacheNode {
 
     pub const LEN: usize = 28;
 
+    // How many values a reading call shows.
+    pub const FIELDS: usize = 8;
+
     // Where the fields stand in a body.
     const FLAGS_AT: usize = 0;
 
@@ -686,6 +716,23 @@ impl CacheNode {
         1 + Self::BODY
     }
 
+    // Writes the values that a reading call shows, in their order.
+    pub fn put_fields(self, answer: &mut [u64], at: usize)
+        ensures { λ _. ⌜ now (answer .exit) ≡ over (now (answer .entry)) at (cacheShown self) ⌝ }
+    {
+        let vs = [
+            self.flags as u64,
+            self.next_level.0 as u64,
+            self.size as u64,
+            self.set_count as u64,
+            self.associativity as u64,
+            self.attributes as u64,
+            self.line_size as u64,
+            self.id as u64,
+        ];
+        field::copy_u64(answer, at, &vs);
+    }
+
     // The parts of the attributes.
     pub fn allocation(self) -> u8
         ensures { λ r. ⌜ r ≡ bits (self .attributes) 0 2 ⌝ }
@@ -777,12 +824,22 @@ impl CacheNode {
     }
 
     // Whether a record is fixed where it has to be, and no field outside its range.
-    pub fn is_sound(row: &[u8]) -> bool
+    fn is_good(row: &[u8]) -> bool
         ensures { λ r. ⌜ r ≡ sound cache (now (row .entry)) ⌝ }
     {
         if !Self::is_fixed(row) {
             return false;
         }
         Self::get(row, 0).bad_field() == 0
+    }
+
+    // The same; a window of constant length, where the record has that length, saves the test of each place.
+    pub fn is_sound(row: &[u8]) -> bool
+        ensures { λ r. ⌜ r ≡ sound cache (now (row .entry)) ⌝ }
+    {
+        if row.len() != Self::LEN {
+            return Self::is_good(row);
+        }
+        Self::is_good(&row[..Self::LEN])
     }
 }

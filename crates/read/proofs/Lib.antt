@@ -3,5 +3,4 @@ pub mod Walks
 pub mod Listing
 pub mod Fields
 pub mod Unique
-pub mod Marks
 pub mod Once

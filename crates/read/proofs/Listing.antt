@@ -102,7 +102,8 @@ module _ (b : List ℕ) (mask : ℕ) where
       let h = all-seen t q ss (next t c p) (entryOf a ∷ es) (w ∙ rw j) in
       rw (q, ← i) (ap (λ (l : List Seen). a ∷ l) h)
 
-  signed-as : (t : Table) → judgeHead b ≡ given t → signed b ≡ some t
+  -- a table that is judged to be t is signed so
+  pub signed-as : (t : Table) → judgeHead b ≡ given t → signed b ≡ some t
   unfolding judgeHead
   signed-as t e = by (ltb (length b) 36) e
     where

@@ -1,5 +1,5 @@
 -- The references of a record, row by row: a processor's parent and its list, a cache's next level, and none where the layout has none.
-use mathlib.Core.Path.{_≡_, refl, sym}
+use mathlib.Core.Path.{_≡_, refl, sym, _∙_}
 use Prim.Native.Nat.{ℕ, suc, _+_, _-_, _*_, _/_, _≤_, _<_}
 use mathlib.Core.List.{List, [], _∷_}
 use mathlib.Core.Bool.{Bool, true, false, not}
@@ -10,15 +10,17 @@ use lib.Seq.{drop-drop}
 use lib.Dec.{eqb}
 use Rattle.format.specs.Bytes.{pick, both, firstOf, at, value, part}
 use Rattle.format.specs.Layout.{to, orNone, asIs, fieldsWith, fields, isGood, refsGood}
+use Rattle.format.specs.Table.{Table, pptt}
 use Rattle.format.specs.Form.{processor, cache, acpi, pci, layout}
-use Rattle.format.specs.Row.{Row, processors, caches, memories, initiators, rintcs, domains, matrices, sides, formIn}
+use Rattle.format.specs.Row.{Row, processors, caches, memories, initiators, rintcs, domains, matrices, sides, home, rowOf, formIn, known}
 use Rattle.format.specs.Read.{sound, recordFault}
 use Rattle.laws.proofs.Offsets.{fields-at}
 use Rattle.laws.proofs.Shapes.{Plain, plain-fld, plain-matrix}
 use Rattle.laws.proofs.Fits.{plain-good}
+use Rattle.laws.proofs.Masks.{row-home, known-row}
 use Rattle.laws.proofs.Tests.{both-right}
 use Rattle.rows.specs.Rows.{soundAs}
-use Rattle.read.specs.Places.{linked, refsIn}
+use Rattle.read.specs.Places.{RowOf, linked, refsIn}
 
 -- ---- rows without references
 
@@ -48,6 +50,21 @@ plain-row domains bs b = tt
 plain-row matrices bs b = plain-matrix (value (part bs 12 4)) (value (part bs 16 4))
 plain-row sides bs b = plain-fld (value (part bs 30 2)) 2
 
+-- a row of another table than a PPTT
+bare-row : (r : Row) → (home r ≡ pptt → ⊥) → Bare r
+bare-row processors z = absurd (z refl)
+bare-row caches z = absurd (z refl)
+bare-row memories z = tt
+bare-row initiators z = tt
+bare-row rintcs z = tt
+bare-row domains z = tt
+bare-row matrices z = tt
+bare-row sides z = tt
+
+-- a row that is known of a record is of its table
+pub known-of : (t : Table) (rev ty mask : ℕ) (bs : List ℕ) (m o : Option Row) → m ≡ rowOf t rev ty bs → o ≡ known mask m → RowOf t o
+known-of t rev ty mask bs m o i k r e = row-home rev ty bs t r (sym i ∙ known-row mask m r (sym k ∙ e) .0)
+
 module _ (ok : ℕ → ℕ → Bool) where
   pub bare-refs : (r : Row) (bs : List ℕ) → Bare r → true ≡ refsIn ok (some r) bs
   unfolding refsIn
@@ -56,6 +73,10 @@ module _ (ok : ℕ → ℕ → Bool) where
   pub none-refs : (bs : List ℕ) → true ≡ refsIn ok none bs
   unfolding refsIn
   none-refs bs = refl
+
+  pub other-refs : (t : Table) (o : Option Row) (bs : List ℕ) → (t ≡ pptt → ⊥) → RowOf t o → true ≡ refsIn ok o bs
+  other-refs t none bs z h = none-refs bs
+  other-refs t (some r) bs z h = bare-refs r bs (bare-row r (λ e. z (sym (h r refl) ∙ e)))
 
   -- ---- the others
 

@@ -16,8 +16,11 @@ use Rattle.format.specs.Row.{Row, formIn, known, rowOf}
 use Rattle.format.specs.Node.{Entry, entry, atPlace}
 use Rattle.format.specs.Read.{typeIn, framed, recordFault, Seen, seenAs, push, walk}
 use Rattle.laws.proofs.Finds.{unless-given}
-use Rattle.frames.specs.Frames.{ahead, framesOf, refers, recordIn}
+use Rattle.marks.specs.Marks.{noted, Every}
+use Rattle.marks.proofs.Laws.{noted-keeps}
+use Rattle.frames.specs.Frames.{ahead, framesOf, Passed, refers, recordIn}
 use Rattle.frames.proofs.Places.{framed-then, recordAt, next, ahead-end, ahead-bad, ahead-next, room, Came, start, more, came-refers}
+use Rattle.frames.proofs.Marks.{came-passed}
 use Rattle.rows.specs.Rows.{soundAs}
 use Rattle.read.specs.Places.{refsIn, judgedAt, counted}
 use Rattle.read.proofs.Refs.{fault-is}
@@ -114,23 +117,30 @@ module _ (t : Table) (c : List ℕ) (rev mask : ℕ) where
 
   -- the loop has come to p, past n records
   abbrev pub Scanning : ℕ → ℕ → Type 0
-  Scanning p n = (es : List Entry) × Came t c p es × (Whole ≡ plus n (rest es p))
+  Scanning p n = (es : List Entry) × Came t c p es × (n ≡ length es) × (Whole ≡ plus n (rest es p))
 
   pub scan-first : Scanning (front t) 0
-  scan-first = ([], start, by (walk t rev mask [] (framesOf t c)))
+  scan-first = ([], start, refl, by (walk t rev mask [] (framesOf t c)))
     where
       by : (w : Answer (List Seen)) → counted w ≡ plus 0 w
       by (refused k p) = refl
       by (given ss) = rw zero-add
 
   module _ (p n : ℕ) (came : Scanning p n) where
+    -- where the loop is can be marked
+    scan-passed : Passed t c (record { nodes = n; place = p })
+    scan-passed = rw (came .2) (came-passed t c (came .1))
+
+    pub scan-noted : (shift key : ℕ) (ms ms′ : List ℕ) → p < 4294967296 → ms′ ≡ noted (record { nodes = n; place = p }) shift key ms → Every (Passed t c) ms → Every (Passed t c) ms′
+    scan-noted shift key ms ms′ l e h = rw e (noted-keeps (Passed t c) (record { nodes = n; place = p }) shift key ms l scan-passed h)
+
     pub scan-end : length c ≤ p → given n ≡ Whole
     unfolding walk
-    scan-end l = sym (came .2 ∙ rw (ahead-end t c p l, add-zero))
+    scan-end l = sym (came .3 ∙ rw (ahead-end t c p l, add-zero))
 
     module _ (l : p < length c) where
       pub scan-bad : (k q : ℕ) → refused k q ≡ judgedAt t c rev mask p → refused k q ≡ Whole
-      scan-bad k q e = sym (came .2 ∙ rw (step p (came .0) (came .1) l, ← e))
+      scan-bad k q e = sym (came .3 ∙ rw (step p (came .0) (came .1) l, ← e))
 
       pub scan-moves : (q : ℕ) → given q ≡ judgedAt t c rev mask p → (p < q) × (q ≤ length c)
       scan-moves q e =
@@ -142,4 +152,4 @@ module _ (t : Table) (c : List ℕ) (rev mask : ℕ) where
       scan-next q e =
           let (f, z) = judged-given p q (sym e) in
           let es : List Entry = entry p (typeIn t (recordAt t c p)) (length (recordAt t c p)) ∷ came .0 in
-          (es, rw z (more (came .1) f), came .2 ∙ rw (step p (came .0) (came .1) l, ← e) (plus-push n (seenAs t rev mask p (recordAt t c p)) (rest es q)))
+          (es, rw z (more (came .1) f), omega (arith, came .2), came .3 ∙ rw (step p (came .0) (came .1) l, ← e) (plus-push n (seenAs t rev mask p (recordAt t c p)) (rest es q)))

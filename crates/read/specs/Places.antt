@@ -1,6 +1,6 @@
 -- A table's records by their places: what a reader judges at one, what it sees there, and where the next one is.
 use mathlib.Core.Path.{_≡_}
-use Prim.Native.Nat.{ℕ, zero, suc, _+_, _≤_, _<_}
+use Prim.Native.Nat.{ℕ, zero, suc, _+_}
 use mathlib.Core.List.{List, [], _∷_}
 use mathlib.Core.Bool.{Bool, true}
 use mathlib.Core.Option.{Option, none, some}
@@ -9,19 +9,15 @@ use Rattle.format.specs.Bytes.{pick, Answer, refused, given, andThen, unless, a
 use Rattle.format.specs.Layout.{to, fields, refsGood}
 use Rattle.format.specs.Table.{Table, front}
 use Rattle.format.specs.Form.{layout}
-use Rattle.format.specs.Row.{Row, formIn, known, rowOf}
+use Rattle.format.specs.Row.{Row, home, formIn, known, rowOf}
 use Rattle.format.specs.Read.{signed, own, typeIn, framed, recordFault, Seen, seenAs, partOf}
-use Rattle.frames.specs.Frames.{ahead, framesOf, named, refers, recordIn}
+use Rattle.frames.specs.Frames.{refers, recordIn}
 
 -- ---- the judgement, in the table's own bytes c
 
--- the walk from the front comes to m: what it names from there on, the walk from m names too
-abbrev pub Reached : Table → List ℕ → ℕ → Type 0
-Reached t c m = (v ty : ℕ) → m ≤ v → named t (framesOf t c) v ty ≡ named t (ahead t c m) v ty
-
--- it comes to every mark
-abbrev pub Marked : Table → List ℕ → List ℕ → Type 0
-Marked t c ms = (i : ℕ) → i < length ms → Reached t c (at ms i)
+-- the row, where there is one, is of the table
+abbrev pub RowOf : Table → Option Row → Type 0
+RowOf t o = (r : Row) → o ≡ some r → home r ≡ t
 
 -- the n references at the front of bs are good
 unfoldable pub linked : (ℕ → ℕ → Bool) → ℕ → List ℕ → Bool

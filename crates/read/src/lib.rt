@@ -5,14 +5,16 @@ ghost use mathlib.Core.Option.{some};
 ghost use Prim.Native.Nat.{ℕ, _/_, _≤_};
 ghost use lib.ListN.{length};
 ghost use Rattle.format.specs.Layout.{isGood, orNone};
+ghost use Rattle.format.specs.Table.{pptt, limit};
 ghost use Rattle.format.specs.Row.{processors};
 ghost use Rattle.format.specs.Read.{seenAs, walk, fieldsOf, readingOf};
 ghost use Rattle.format.specs.Read as format;
 ghost use Rattle.header.specs.Header.{meant};
 ghost use Rattle.pptt.specs.Processor.{processorShown};
 ghost use Rattle.rows.specs.Rows.{rowMeant};
-ghost use Rattle.frames.specs.Frames.{ahead, framesOf, named, refers};
-ghost use Rattle.read.specs.Places.{Reached, Marked, linked, refsIn, judgedAt, counted, bodyAt, seenAt, partAt, firstPlace, behind};
+ghost use Rattle.marks.specs.Marks.{Every};
+ghost use Rattle.frames.specs.Frames.{framesOf, Passed, refers};
+ghost use Rattle.read.specs.Places.{RowOf, linked, refsIn, judgedAt, counted, bodyAt, seenAt, partAt, firstPlace, behind};
 ghost use Rattle.read.specs.Answers.{rowIn, fieldsIn, shownAs, stepAs, acceptedAs, shown};
 use frames::Judged;
 use frames::Refusal;
@@ -22,6 +24,7 @@ use header::TableHeader;
 use hmat::MemoryProximityDomain;
 use hmat::MemorySideCache;
 use hmat::SystemLocality;
+use marks::Mark;
 use pptt::CacheHandle;
 use pptt::CacheNode;
 use pptt::ProcessorHandle;
@@ -34,102 +37,75 @@ use srat::RintcAffinity;
 
 // ---- the judgement: c is a table's own bytes
 
-// Marks: places that the walk from the front has come to, one for each of as many equal parts of the table.
-const MARKS: usize = 256;
-
-// The part in which a place is. No proof asks which: a mark is good wherever it stands.
-fn part_of(len: usize, p: usize) -> usize {
-    p / (len / MARKS + 1)
-}
-
-// Marks a place, where it is the first in its part.
-fn mark(t: Table, c: &[u8], marks: &mut [usize], p: usize)
-    requires { ⌜ Marked (meant t) (now c) (now marks) × Reached (meant t) (now c) p ⌝ }
-    ensures { λ _. ⌜ Marked (meant t) (now (c .entry)) (now (marks .exit)) ⌝ }
-{
-    let i = part_of(c.len(), p);
-    if marks.len() <= i {
-        return;
-    }
-    if marks[i] != t.front() {
-        return;
-    }
-    marks[i] = p;
-}
-
-// A place from which a walk to v comes to what it comes to from the front.
-fn near(t: Table, c: &[u8], marks: &[usize], v: usize) -> usize
-    requires { ⌜ Marked (meant t) (now c) (now marks) ⌝ }
-    ensures { λ r. ⌜ ((ty : ℕ) → named (meant t) (framesOf (meant t) (now (c .entry))) v ty ≡ named (meant t) (ahead (meant t) (now (c .entry)) r) v ty) ⌝ }
-{
-    let i = part_of(c.len(), v);
-    if marks.len() <= i {
-        return t.front();
-    }
-    let m = marks[i];
-    if v < m {
-        return t.front();
-    }
-    m
-}
-
 // Whether v is the start of a record of type ty before the one at own: being below own is not enough.
-fn refers(t: Table, c: &[u8], marks: &[usize], own: usize, v: usize, ty: u16) -> bool
-    requires { ⌜ Marked (meant t) (now c) (now marks) ⌝ }
-    ensures { λ r. ⌜ r ≡ refers (meant t) (now (c .entry)) own v ty ⌝ }
+// Only a PPTT has references: it is the table here and in what names a record.
+fn refers(c: &[u8], marks: &[u64], shift: u32, own: usize, v: usize, ty: u16) -> bool
+    requires { ⌜ Every (Passed pptt (now c)) (now marks) ⌝ }
+    ensures { λ r. ⌜ r ≡ refers pptt (now (c .entry)) own v ty ⌝ }
 {
     if own <= v {
         return false;
     }
-    frames::starts(t, c, near(t, c, marks, v), v, ty)
+    let first = Mark {
+        nodes: 0,
+        place: Table::PPTT_FRONT as u32,
+    };
+    frames::starts(Table::Pptt, c, first.toward_place(marks, shift, v), v, ty)
 }
 
 // Whether a handle is none, or names a processor before the record at own.
 fn names_processor_or_none(
-    t: Table,
     c: &[u8],
-    marks: &[usize],
+    marks: &[u64],
+    shift: u32,
     own: usize,
     h: ProcessorHandle,
 ) -> bool
-    requires { ⌜ Marked (meant t) (now c) (now marks) ⌝ }
-    ensures { λ r. ⌜ r ≡ isGood (refers (meant t) (now (c .entry)) own) (orNone 0) (h .0) ⌝ }
+    requires { ⌜ Every (Passed pptt (now c)) (now marks) ⌝ }
+    ensures { λ r. ⌜ r ≡ isGood (refers pptt (now (c .entry)) own) (orNone 0) (h .0) ⌝ }
 {
     if h.0 == 0 {
         return true;
     }
-    refers(t, c, marks, own, h.0 as usize, ProcessorNode::TYPE as u16)
+    refers(
+        c,
+        marks,
+        shift,
+        own,
+        h.0 as usize,
+        ProcessorNode::TYPE as u16,
+    )
 }
 
 // Whether a handle names a cache before the record at own.
-fn names_cache(t: Table, c: &[u8], marks: &[usize], own: usize, h: CacheHandle) -> bool
-    requires { ⌜ Marked (meant t) (now c) (now marks) ⌝ }
-    ensures { λ r. ⌜ r ≡ refers (meant t) (now (c .entry)) own (h .0) 1 ⌝ }
+fn names_cache(c: &[u8], marks: &[u64], shift: u32, own: usize, h: CacheHandle) -> bool
+    requires { ⌜ Every (Passed pptt (now c)) (now marks) ⌝ }
+    ensures { λ r. ⌜ r ≡ refers pptt (now (c .entry)) own (h .0) 1 ⌝ }
 {
-    refers(t, c, marks, own, h.0 as usize, CacheNode::TYPE as u16)
+    refers(c, marks, shift, own, h.0 as usize, CacheNode::TYPE as u16)
 }
 
 // Whether it is none, or names one.
-fn names_cache_or_none(t: Table, c: &[u8], marks: &[usize], own: usize, h: CacheHandle) -> bool
-    requires { ⌜ Marked (meant t) (now c) (now marks) ⌝ }
-    ensures { λ r. ⌜ r ≡ isGood (refers (meant t) (now (c .entry)) own) (orNone 1) (h .0) ⌝ }
+fn names_cache_or_none(c: &[u8], marks: &[u64], shift: u32, own: usize, h: CacheHandle) -> bool
+    requires { ⌜ Every (Passed pptt (now c)) (now marks) ⌝ }
+    ensures { λ r. ⌜ r ≡ isGood (refers pptt (now (c .entry)) own) (orNone 1) (h .0) ⌝ }
 {
     if h.0 == 0 {
         return true;
     }
-    names_cache(t, c, marks, own, h)
+    names_cache(c, marks, shift, own, h)
 }
 
 // Whether each of the resources names a cache before the record at own.
-fn links(t: Table, c: &[u8], marks: &[usize], own: usize, resources: &[u8]) -> bool
-    requires { ⌜ Marked (meant t) (now c) (now marks) ⌝ }
-    ensures { λ r. ⌜ r ≡ linked (refers (meant t) (now (c .entry)) own) (length (now (resources .entry)) / 4) (now (resources .entry)) ⌝ }
+fn links(c: &[u8], marks: &[u64], shift: u32, own: usize, resources: &[u8]) -> bool
+    requires { ⌜ Every (Passed pptt (now c)) (now marks) ⌝ }
+    ensures { λ r. ⌜ r ≡ linked (refers pptt (now (c .entry)) own) (length (now (resources .entry)) / 4) (now (resources .entry)) ⌝ }
 {
     let n = resources.len() / Resource::LEN;
     let mut i = 0;
     while i < n {
         let cache = CacheHandle(field::get_u32(resources, Resource::LEN * i));
-        if !names_cache(t, c, marks, own, cache) {
+        if !names_cache(c, marks, shift, own, cache) {
             return false;
         }
         i += 1;
@@ -138,18 +114,18 @@ fn links(t: Table, c: &[u8], marks: &[usize], own: usize, resources: &[u8]) -> b
 }
 
 // Whether the references of a record are good: a processor's parent and resources, a cache's next level.
-fn refs_good(t: Table, c: &[u8], marks: &[usize], own: usize, row: Row, body: &[u8]) -> bool
-    requires { ⌜ Marked (meant t) (now c) (now marks) ⌝ }
-    ensures { λ r. ⌜ r ≡ refsIn (refers (meant t) (now (c .entry)) own) (rowMeant row) (now (body .entry)) ⌝ }
+fn refs_good(c: &[u8], marks: &[u64], shift: u32, own: usize, row: Row, body: &[u8]) -> bool
+    requires { ⌜ Every (Passed pptt (now c)) (now marks) ⌝ }
+    ensures { λ r. ⌜ r ≡ refsIn (refers pptt (now (c .entry)) own) (rowMeant row) (now (body .entry)) ⌝ }
 {
     match row {
         Row::Processors => {
-            if !names_processor_or_none(t, c, marks, own, ProcessorNode::parent_of(body)) {
+            if !names_processor_or_none(c, marks, shift, own, ProcessorNode::parent_of(body)) {
                 return false;
             }
-            links(t, c, marks, own, field::rest(body, ProcessorNode::LEN))
+            links(c, marks, shift, own, field::rest(body, ProcessorNode::LEN))
         }
-        Row::Caches => names_cache_or_none(t, c, marks, own, CacheNode::next_level_of(body)),
+        Row::Caches => names_cache_or_none(c, marks, shift, own, CacheNode::next_level_of(body)),
         Row::Memories => true,
         Row::Initiators => true,
         Row::Rintcs => true,
@@ -160,6 +136,26 @@ fn refs_good(t: Table, c: &[u8], marks: &[usize], own: usize, row: Row, body: &[
     }
 }
 
+// The same in any table, by a row of it: no row of the others has references.
+fn refs_stand(
+    t: Table,
+    c: &[u8],
+    marks: &[u64],
+    shift: u32,
+    own: usize,
+    row: Row,
+    body: &[u8],
+) -> bool
+    requires { ⌜ Every (Passed (meant t) (now c)) (now marks) × RowOf (meant t) (rowMeant row) ⌝ }
+    ensures { λ r. ⌜ r ≡ refsIn (refers (meant t) (now (c .entry)) own) (rowMeant row) (now (body .entry)) ⌝ }
+{
+    match t {
+        Table::Pptt => refs_good(c, marks, shift, own, row, body),
+        Table::Srat => true,
+        Table::Hmat => true,
+    }
+}
+
 // A record is passed, or refused.
 enum Step {
     Next(usize),
@@ -167,8 +163,8 @@ enum Step {
 }
 
 // The judgement of the record at a place.
-fn judge(t: Table, c: &[u8], marks: &[usize], revision: u8, mask: u32, p: usize) -> Step
-    requires { ⌜ Marked (meant t) (now c) (now marks) ⌝ }
+fn judge(t: Table, c: &[u8], marks: &[u64], shift: u32, revision: u8, mask: u32, p: usize) -> Step
+    requires { ⌜ Every (Passed (meant t) (now c)) (now marks) ⌝ }
     ensures { λ r. ⌜ stepAs r ≡ judgedAt (meant t) (now (c .entry)) revision mask p ⌝ }
 {
     let s = field::rest(c, p);
@@ -180,7 +176,7 @@ fn judge(t: Table, c: &[u8], marks: &[usize], revision: u8, mask: u32, p: usize)
     if !rows::sound(row, body) {
         return Step::Refused(Refusal::BadRecord(p));
     }
-    if !refs_good(t, c, marks, p, row, body) {
+    if !refs_stand(t, c, marks, shift, p, row, body) {
         return Step::Refused(Refusal::BadRef(p));
     }
     Step::Next(p + body.len())
@@ -192,16 +188,20 @@ pub enum Accepted {
     Refused(Refusal),
 }
 
-// All records, one after the other.
-fn judge_all(t: Table, c: &[u8], marks: &mut [usize], revision: u8, mask: u32) -> Accepted
-    requires { ⌜ Marked (meant t) (now c) (now marks) ⌝ }
+// All records, one after the other, each marked before it is judged.
+fn judge_all(t: Table, c: &[u8], marks: &mut [u64], shift: u32, revision: u8, mask: u32) -> Accepted
+    requires { ⌜ (length (now c) ≤ limit) × Every (Passed (meant t) (now c)) (now marks) ⌝ }
     ensures { λ r. ⌜ acceptedAs r ≡ counted (walk (meant t) revision mask [] (framesOf (meant t) (now (c .entry)))) ⌝ }
 {
     let mut p = t.front();
     let mut count = 0;
     while p < c.len() {
-        mark(t, c, marks, p);
-        match judge(t, c, marks, revision, mask, p) {
+        let here = Mark {
+            nodes: count as u32,
+            place: p as u32,
+        };
+        here.note(marks, shift, p);
+        match judge(t, c, marks, shift, revision, mask, p) {
             Step::Next(q) => {
                 p = q;
                 count += 1;
@@ -212,16 +212,23 @@ fn judge_all(t: Table, c: &[u8], marks: &mut [usize], revision: u8, mask: u32) -
     Accepted::Records(count)
 }
 
-// The same, with room for marks where there are references: in a PPTT.
+// The same, with room for marks where there are references: in a PPTT, for more where it is long.
 fn scan(t: Table, c: &[u8], revision: u8, mask: u32) -> Accepted
+    requires { ⌜ length (now c) ≤ limit ⌝ }
     ensures { λ r. ⌜ acceptedAs r ≡ counted (walk (meant t) revision mask [] (framesOf (meant t) (now (c .entry)))) ⌝ }
 {
     if let Table::Pptt = t {
-        let mut marks = [t.front(); MARKS];
-        return judge_all(t, c, &mut marks, revision, mask);
+        if c.len() < ProcessorNode::LEN * marks::FEW {
+            let mut few = [0u64; marks::FEW];
+            let shift = marks::spread(c.len(), marks::FEW);
+            return judge_all(t, c, &mut few, shift, revision, mask);
+        }
+        let mut many = [0u64; marks::MANY];
+        let shift = marks::spread(c.len(), marks::MANY);
+        return judge_all(t, c, &mut many, shift, revision, mask);
     }
-    let mut one = [t.front(); 1];
-    judge_all(t, c, &mut one, revision, mask)
+    let mut one = [0u64; 1];
+    judge_all(t, c, &mut one, 63, revision, mask)
 }
 
 // Judges a table by the rows that the mask has.

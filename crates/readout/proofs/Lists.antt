@@ -12,7 +12,7 @@ use Rattle.format.specs.Layout.{Item, to, wide, takenWith, width, layWith, lay}
 use Rattle.format.specs.Kind.{Kind, Initiator, Cell, body}
 use Rattle.format.specs.Normal.{call, each, eachSet}
 use Rattle.laws.specs.Offsets.{fieldsAt}
-use Rattle.laws.proofs.Bytes.{le-mod, over-over, over-none, over-past, length-over}
+use Rattle.laws.proofs.Bytes.{le-mod, over-over, over-none, length-over}
 use Rattle.laws.proofs.Fields.{length-call}
 use Rattle.readout.specs.Laid.{Laid}
 use Rattle.readout.specs.Places.{setting}
@@ -105,10 +105,7 @@ module _ {a b ys : List ℕ} {at p : ℕ} (g : ℕ → ℕ) (it : Item) (bs : Li
   unfolding eachSet
   set-laid s u l m = all-laid (rw (list-end g it bs n i q l) at m)
 
--- where there is no room nothing is written
-pub unlaid : (a : List ℕ) (p : ℕ) (xs : List ℕ) (q : ℕ) → length a ≤ p → q ≡ p + length xs → Laid a a p xs q
-unlaid a p xs q l e = record { bytes = sym (over-past a p xs l); next = e }
-
+-- a list of references is as long whatever they are
 pub length-each : (k : Kind) (g : ℕ → ℕ) (y n : ℕ) (bs : List ℕ) (p : ℕ) → length (each k (fieldsAt g (replicate n (to y)) bs p)) ≡ suc (width (body k)) * n
 unfolding each
 length-each k g y zero bs p = sym (mul-zero _)

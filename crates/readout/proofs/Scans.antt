@@ -1,21 +1,22 @@
--- The walk that writes a table's records: what is still to come from a place on, by one record more, and where it ends.
+-- The walks that write and measure a table's records: what is still to come from a place on, by one record more, and where it ends.
 use mathlib.Core.Path.{_≡_, refl, sym, ap, _∙_}
-use Prim.Native.Nat.{ℕ, _+_, _≤_, _<_}
+use Prim.Native.Nat.{ℕ, suc, _+_, _≤_, _<_}
 use mathlib.Core.List.{List}
 use mathlib.Core.Bool.{Bool, true, false}
 use mathlib.Core.Option.{Option, some}
 use native.Mathlib.Omega.{arith}
-use lib.ListN.{length, drop}
+use native.Mathlib.Numerals.{add-one}
+use lib.ListN.{length, length-append, drop}
 use lib.Dec.{eqb, leb}
-use borrow.Author.Tests.{leb-true}
-use Rattle.format.specs.Bytes.{value, part, Answer, refused, given, over}
+use borrow.Author.Tests.{eqb-true, ne-eqb, leb-true}
+use Rattle.format.specs.Bytes.{value, part, refused, given, over}
 use Rattle.format.specs.Table.{Table, front, limit, revision}
-use Rattle.format.specs.Row.{Row, matrices, home, rowType, column, matches, rowOf}
+use Rattle.format.specs.Row.{Row, processors, caches, matrices, home, rowType, column, matches, rowOf}
 use Rattle.format.specs.Read.{typeIn, framed}
 use Rattle.laws.proofs.Lays.{both-true}
 use Rattle.laws.proofs.Masks.{row-then}
-use Rattle.frames.specs.Frames.{ahead, recordIn}
-use Rattle.frames.proofs.Places.{framed-then, recordAt, next, ahead-end, ahead-bad, ahead-next, room}
+use Rattle.frames.specs.Frames.{ahead, Passed, recordIn}
+use Rattle.frames.proofs.Places.{framed-then, recordAt, ahead-end, ahead-bad, ahead-next, room, numbered-next}
 use Rattle.readout.specs.Laid.{Laid}
 use Rattle.readout.specs.Places.{Small, ordinalAt, callsAs, isRow, callsFrom, unlessUnknown, callsAt, measured}
 use Rattle.readout.proofs.Lists.{Coming, all-coming, all-laid, come}
@@ -23,50 +24,22 @@ use Rattle.readout.proofs.Lists.{Coming, all-coming, all-laid, come}
 -- a record of a row is small
 pub small-record : (t : Table) (rev ty : ℕ) (bs : List ℕ) → length bs ≤ limit → Small (rowOf t rev ty bs) bs
 unfolding matches column
-small-record t rev ty bs l = record { short = l; initiators = λ e. both-of e .0; targets = λ e. both-of e .1 }
+small-record t rev ty bs l =
+    record {
+      short = l;
+      headed = λ e. leb-true 20 (length bs) (both-true (leb 20 (length bs)) _ (column-of processors e) .0);
+      whole = λ e. eqb-true (length bs) 28 (column-of caches e);
+      initiators = λ e. both-of e .0;
+      targets = λ e. both-of e .1;
+    }
   where
+    column-of : (r : Row) → rowOf t rev ty bs ≡ some r → column r bs ≡ true
+    column-of r e = both-true (eqb ty (rowType r)) (column r bs) (both-true (eqb rev (revision (home r))) _ (row-then rev ty bs t r e) .1) .1
+
     both-of : rowOf t rev ty bs ≡ some matrices → (value (part bs 12 4) ≤ 255) × (value (part bs 16 4) ≤ 255)
     both-of e =
-        let m = row-then rev ty bs t matrices e in
-        let c = both-true (eqb ty (rowType matrices)) _ (both-true (eqb rev (revision (home matrices))) _ m .1) .1 in
-        let d = both-true (leb (value (part bs 12 4)) 255) _ (both-true (leb 32 (length bs)) _ c .1) in
+        let d = both-true (leb (value (part bs 12 4)) 255) _ (both-true (leb 32 (length bs)) _ (column-of matrices e) .1) in
         (leb-true (value (part bs 12 4)) 255 (d .0), leb-true (value (part bs 16 4)) 255 (d .1))
-
-module _ (t : Table) (rev : ℕ) (c a : List ℕ) where
-  -- from place p on, of the buffer b, the calls are still to come, at place q
-  pub record Writing (b : List ℕ) (p q : ℕ) : Type 0 where
-    pub coming : Coming a 28 (callsAt t rev c) b q (callsFrom t rev (ordinalAt t c) (ahead t c p))
-    pub told : measured t rev c ≡ unlessUnknown t rev (28 + length (callsAt t rev c)) (ahead t c p)
-
-  -- what a call that ends here answers, and the buffer
-  abbrev pub Ends : Answer ℕ → List ℕ → Type 0
-  Ends r b = (r ≡ measured t rev c) × (b ≡ over a 28 (callsAt t rev c))
-
-  pub writing-start : Writing a (front t) 28
-  unfolding callsAt measured
-  writing-start = record { coming = all-coming _ _ _; told = refl }
-
-  module _ {b : List ℕ} {p q : ℕ} where
-    pub writing-end : length c ≤ p → Writing b p q → Ends (given q) b
-    unfolding callsFrom unlessUnknown
-    writing-end l w =
-        let m = all-laid (rw (ahead-end t c p l) at (w .coming)) in
-        (ap given (m .next) ∙ sym (rw (ahead-end t c p l) at (w .told)), m .bytes)
-
-    pub writing-bad : p < length c → framed t (drop p c) ≡ false → Writing b p q → Ends (given q) b
-    unfolding callsFrom unlessUnknown
-    writing-bad l f w =
-        let m = all-laid (rw (ahead-bad t c p l f) at (w .coming)) in
-        (ap given (m .next) ∙ sym (rw (ahead-bad t c p l f) at (w .told)), m .bytes)
-
-    pub writing-unknown : framed t (drop p c) ≡ true → isRow (rowOf t rev (typeIn t (recordAt t c p)) (recordAt t c p)) ≡ false → Writing b p q → Ends (refused 29 p) b
-    unfolding callsFrom unlessUnknown
-    writing-unknown f u w = (sym (rw (ahead-next t c p f, u) at (w .told)), all-laid (rw (ahead-next t c p f, u) at (w .coming)) .bytes)
-
-    pub writing-next : {b′ : List ℕ} {q′ : ℕ} → framed t (drop p c) ≡ true → isRow (rowOf t rev (typeIn t (recordAt t c p)) (recordAt t c p)) ≡ true
-        → Laid b b′ q (callsAs (ordinalAt t c p) (rowOf t rev (typeIn t (recordAt t c p)) (recordAt t c p)) (recordAt t c p)) q′ → Writing b p q → Writing b′ (next t c p) q′
-    unfolding callsFrom unlessUnknown
-    writing-next f u l w = record { coming = come l (rw (ahead-next t c p f, u) at (w .coming)); told = rw (ahead-next t c p f, u) at (w .told) }
 
 -- what a turn learns that finds the record bs at p, of this row; s is what stands there
 pub record Turn (t : Table) (rev : ℕ) (c : List ℕ) (p : ℕ) (bs : List ℕ) (o : Option Row) : Type 0 where
@@ -84,3 +57,79 @@ turns t rev c p s bs x row e f y b r =
     let F = framed-then t (drop p c) g in
     let n : length bs ≡ length (recordAt t c p) = ap length d in
     record { frame = g; body = d; row = rw d at r; some = omega (arith, F .some, F .long); inside = omega (arith, room t c p g .1) }
+
+-- ---- the walk that writes
+
+module _ (t : Table) (rev : ℕ) (c a : List ℕ) where
+  -- from place p on, of the buffer b, the calls are still to come, at place q
+  abbrev pub Writing : List ℕ → ℕ → ℕ → Type 0
+  Writing b p q = Coming a 28 (callsAt t rev c) b q (callsFrom t rev (ordinalAt t c) (ahead t c p))
+
+  pub writing-start : Writing a (front t) 28
+  unfolding callsAt
+  writing-start = all-coming _ _ _
+
+  module _ {b : List ℕ} {p q : ℕ} where
+    pub writing-end : length c ≤ p → Writing b p q → b ≡ over a 28 (callsAt t rev c)
+    unfolding callsFrom
+    writing-end l w = all-laid (rw (ahead-end t c p l) at w) .bytes
+
+    pub writing-bad : p < length c → framed t (drop p c) ≡ false → Writing b p q → b ≡ over a 28 (callsAt t rev c)
+    unfolding callsFrom
+    writing-bad l f w = all-laid (rw (ahead-bad t c p l f) at w) .bytes
+
+    module _ {bs : List ℕ} {o : Option Row} (T : Turn t rev c p bs o) where
+      pub writing-unknown : isRow o ≡ false → Writing b p q → b ≡ over a 28 (callsAt t rev c)
+      unfolding callsFrom
+      writing-unknown u w = all-laid (rw (ahead-next t c p (T .frame), rw (T .row) at u) at w) .bytes
+
+      pub writing-next : {b′ : List ℕ} {q′ : ℕ} → isRow o ≡ true → Laid b b′ q (callsAs (ordinalAt t c p) o bs) q′ → Writing b p q → Writing b′ (p + length bs) q′
+      unfolding callsFrom
+      writing-next u l w = rw (T .body) (come (rw (T .row, T .body) at l) (rw (ahead-next t c p (T .frame), rw (T .row) at u) at w))
+
+-- the walk has come to the mark behind the record, which counts one more
+pub passed-next : {t : Table} {rev : ℕ} {c : List ℕ} {p : ℕ} {bs : List ℕ} {o : Option Row} → Turn t rev c p bs o
+    → (k : ℕ) → Passed t c (record { nodes = k; place = p }) → Passed t c (record { nodes = k + 1; place = p + length bs })
+passed-next {t} {rev} {c} {p} T k h v l =
+    h v (omega (arith, T .some)) ∙ numbered-next t c v (suc k) p (T .frame) ∙ rw (ne-eqb p v (λ z. omega (arith, T .some)), add-one, ← T .body)
+
+-- ---- the walk that measures
+
+module _ (t : Table) (rev : ℕ) (c : List ℕ) where
+  -- from place p on the calls are still to be counted, behind q bytes
+  pub record Counting (p q : ℕ) : Type 0 where
+    pub coming : q + length (callsFrom t rev (ordinalAt t c) (ahead t c p)) ≡ 28 + length (callsAt t rev c)
+    pub told : measured t rev c ≡ unlessUnknown t rev (28 + length (callsAt t rev c)) (ahead t c p)
+
+  pub counting-start : Counting (front t) 28
+  unfolding callsAt measured
+  counting-start = record { coming = refl; told = refl }
+
+  module _ {p q : ℕ} where
+    pub counting-end : length c ≤ p → Counting p q → given q ≡ measured t rev c
+    unfolding callsFrom unlessUnknown
+    counting-end l w =
+        let e : q + 0 ≡ 28 + length (callsAt t rev c) = rw (ahead-end t c p l) at (w .coming) in
+        let z : q ≡ 28 + length (callsAt t rev c) = omega (arith, e) in
+        ap given z ∙ sym (rw (ahead-end t c p l) at (w .told))
+
+    pub counting-bad : p < length c → framed t (drop p c) ≡ false → Counting p q → given q ≡ measured t rev c
+    unfolding callsFrom unlessUnknown
+    counting-bad l f w =
+        let e : q + 0 ≡ 28 + length (callsAt t rev c) = rw (ahead-bad t c p l f) at (w .coming) in
+        let z : q ≡ 28 + length (callsAt t rev c) = omega (arith, e) in
+        ap given z ∙ sym (rw (ahead-bad t c p l f) at (w .told))
+
+    module _ {bs : List ℕ} {o : Option Row} (T : Turn t rev c p bs o) where
+      pub counting-unknown : isRow o ≡ false → Counting p q → refused 29 p ≡ measured t rev c
+      unfolding unlessUnknown
+      counting-unknown u w = sym (rw (ahead-next t c p (T .frame), rw (T .row) at u) at (w .told))
+
+      pub counting-next : (n : ℕ) → isRow o ≡ true → n ≡ length (callsAs (ordinalAt t c p) o bs) → Counting p q → Counting (p + length bs) (q + n)
+      unfolding callsFrom unlessUnknown
+      counting-next n u l w =
+          let f = ahead-next t c p (T .frame) in
+          let k = rw (T .row) at u in
+          let e = rw (f, k, length-append) at (w .coming) in
+          let m = rw (T .row, T .body) at l in
+          rw (T .body) (record { coming = omega (arith, e, m); told = rw (f, k) at (w .told) })

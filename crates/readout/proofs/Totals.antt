@@ -3,6 +3,7 @@ use mathlib.Core.Path.{_≡_, refl, sym, _∙_}
 use Prim.Native.Nat.{ℕ, _+_, _≤_}
 use mathlib.Core.List.{List, [], _++_}
 use mathlib.Core.Bool.{Bool, true, false}
+use mathlib.Core.Option.{none, some}
 use native.Mathlib.Omega.{arith}
 use lib.ListN.{length, length-append}
 use lib.Seq.{length-take-le}
@@ -13,7 +14,7 @@ use Rattle.format.specs.Row.{rowOf}
 use Rattle.format.specs.Node.{Node}
 use Rattle.format.specs.Recipe.{means}
 use Rattle.format.specs.Normal.{callsOf, headCall, recipeOf}
-use Rattle.format.specs.Read.{own, lengthIn, typeIn, Frames, ended, badFrame, framedAt, Seen, judgeHead, walked, accept}
+use Rattle.format.specs.Read.{signed, own, lengthIn, typeIn, Frames, ended, badFrame, framedAt, Seen, judgeHead, walked, accept}
 use Rattle.format.specs.Build.{fitting, written}
 use Rattle.format.specs.Out.{every, nodesFrom, headIn, outOf, meaningOf, readOut, recipe, outWritten}
 use Rattle.laws.proofs.Bytes.{length-part}
@@ -21,6 +22,7 @@ use Rattle.laws.proofs.Finds.{then-given}
 use Rattle.laws.proofs.Trips.{judged}
 use Rattle.header.proofs.Laws.{front-long}
 use Rattle.frames.specs.Frames.{framesOf}
+use Rattle.read.proofs.Listing.{signed-as}
 use Rattle.readout.specs.Places.{isRow, unlessUnknown, callsAt, measured, recipeAs, outAs}
 use Rattle.readout.proofs.Ordinals.{agrees-start}
 use Rattle.readout.proofs.Outs.{out-all}
@@ -116,11 +118,28 @@ judged-sizes b t h =
     let l : length (own b) ≡ lengthIn b = length-take-le (lengthIn b) b (J .lent) in
     (omega (arith, J .long, J .lent, front-long t), omega (arith, J .short))
 
-pub accepted-then : (b : List ℕ) (t : Table) (k : ℕ) → judgeHead b ≡ given t → given k ≡ andThen (accept b every) (λ ss. given (length ss)) → (ss : List Seen) × (walked t b every ≡ given ss)
+accepted-then : (b : List ℕ) (k : ℕ) → given k ≡ andThen (accept b every) (λ ss. given (length ss))
+    → (t : Table) × (signed b ≡ some t) × (judgeHead b ≡ given t) × (ss : List Seen) × (walked t b every ≡ given ss)
 unfolding accept
-accepted-then b t k h e =
-    let (ss, w, z) = then-given (walked t b every) (λ ss. given (length ss)) (sym (rw h at e)) in
-    (ss, w)
+accepted-then b k e =
+    let (ss, a, z) = then-given (andThen (judgeHead b) (λ t. walked t b every)) (λ ss. given (length ss)) (sym e) in
+    let (t, h, w) = then-given (judgeHead b) (λ t. walked t b every) a in
+    (t, signed-as b every t h, h, ss, w)
+
+-- a table that is accepted is the one that it is signed as
+pub accepted-as : (b : List ℕ) (k : ℕ) (t : Table) → given k ≡ andThen (accept b every) (λ ss. given (length ss)) → some t ≡ signed b
+    → (judgeHead b ≡ given t) × (ss : List Seen) × (walked t b every ≡ given ss)
+accepted-as b k t e i =
+    let (u, s, h, ss, w) = accepted-then b k e in
+    let z : u ≡ t = cc in
+    (rw z at h, ss, rw z at w)
+
+-- and it is signed
+pub accepted-signed : (b : List ℕ) (k : ℕ) → given k ≡ andThen (accept b every) (λ ss. given (length ss)) → none ≡ signed b → ⊥
+accepted-signed b k e i =
+    let s = accepted-then b k e .1 in
+    let z : _≡_ {A = ℕ} 0 1 = cc in
+    omega arith
 
 pub refused-then : (b : List ℕ) (n p : ℕ) → refused n p ≡ andThen (accept b every) (λ ss. given (length ss)) → andThen (judgeHead b) (λ t. walked t b every) ≡ refused n p
 unfolding accept
@@ -129,6 +148,3 @@ refused-then b n p e = by (andThen (judgeHead b) (λ t. walked t b every)) e
     by : (a : Answer (List Seen)) → refused n p ≡ andThen a (λ ss. given (length ss)) → a ≡ refused n p
     by (refused m q) e = cc
     by (given ss) e = absurd (let z : _≡_ {A = ℕ} 0 1 = cc in omega arith)
-
-pub head-refused : (b : List ℕ) (n p : ℕ) → refused n p ≡ judgeHead b → andThen (judgeHead b) (λ t. walked t b every) ≡ refused n p
-head-refused b n p e = rw (← e)

@@ -1,14 +1,14 @@
 // Reading out: the recipe of a table in its normal form, written behind its head record by record.
-// The same walk that writes also measures: over a buffer without room it counts.
+// One walk measures, another writes what is measured.
 ghost use mathlib.Core.Path.{_≡_};
 ghost use mathlib.Core.List.{_∷_, [], _++_};
 ghost use Prim.Native.Nat.{ℕ, _+_, _*_, _-_, _/_, _%_, _≤_, _<_};
 ghost use lib.Dec.{eqb};
 ghost use lib.ListN.{length, replicate};
-ghost use Rattle.format.specs.Bytes.{pick, given, value, part, over};
+ghost use Rattle.format.specs.Bytes.{pick, value, part, over};
 ghost use Rattle.format.specs.Layout.{asIs, fld, to};
-ghost use Rattle.format.specs.Table.{limit};
-ghost use Rattle.format.specs.Read.{own, judgeHead};
+ghost use Rattle.format.specs.Table.{pptt, limit};
+ghost use Rattle.format.specs.Read.{own};
 ghost use Rattle.format.specs.Build.{fitting, written};
 ghost use Rattle.format.specs.Out.{readOut, outWritten};
 ghost use Rattle.format.specs.Form.{cache};
@@ -17,12 +17,14 @@ ghost use Rattle.format.specs.Kind as format;
 ghost use Rattle.format.specs.Normal.{call, each, eachSet, settings};
 ghost use Rattle.laws.specs.Offsets.{fieldsAt};
 ghost use Rattle.header.specs.Header.{meant};
+ghost use Rattle.marks.specs.Marks.{Every};
+ghost use Rattle.frames.specs.Frames.{Passed};
 ghost use Rattle.rows.specs.Rows.{rowMeant};
 ghost use Rattle.readout.specs.Laid.{Laid};
-ghost use Rattle.readout.specs.Places.{Small, ordinalAt, setting, callsIn, callsAs, isRow, callsAt, measured, recipeAs, outAs};
+ghost use Rattle.readout.specs.Places.{Mine, Small, ordinalAt, setting, callsIn, callsAs, isRow, callsAt, measured, recipeAs, outAs};
 ghost use Rattle.readout.specs.Answers.{measuredAs, shown, numberOf, placeOf};
-use frames::Judged;
 use frames::Refusal;
+use frames::Spelled;
 use header::Table;
 use header::TableHeader;
 use hmat::Cell;
@@ -30,6 +32,7 @@ use hmat::MemoryProximityDomain;
 use hmat::MemorySideCache;
 use hmat::SystemLocality;
 use hmat::Value;
+use marks::Mark;
 use pptt::CacheHandle;
 use pptt::CacheNode;
 use pptt::ProcessorHandle;
@@ -41,50 +44,66 @@ use srat::GenericInitiator;
 use srat::MemoryAffinity;
 use srat::RintcAffinity;
 
-// ---- references
+// ---- references: only a PPTT has them; the marks, under their places, are of records that its walk has come to
 
 // The how manieth record starts at v, of those before the one at own; 0 for none.
-fn ordinal(t: Table, c: &[u8], own: usize, v: usize) -> usize
-    ensures { λ r. ⌜ r ≡ ordinalAt (meant t) (now (c .entry)) own v ⌝ }
+fn ordinal(c: &[u8], marks: &[u64], shift: u32, own: usize, v: usize) -> usize
+    requires { ⌜ Every (Passed pptt (now c)) (now marks) ⌝ }
+    ensures { λ r. ⌜ r ≡ ordinalAt pptt (now (c .entry)) own v ⌝ }
 {
     if own <= v {
         return 0;
     }
-    frames::number(t, c, t.front(), v)
+    let first = Mark {
+        nodes: 0,
+        place: Table::PPTT_FRONT as u32,
+    };
+    let near = first.toward_place(marks, shift, v);
+    frames::number(Table::Pptt, c, near, v)
 }
 
 // A handle by its ordinal in place of its place.
-fn processor_ordinal(t: Table, c: &[u8], own: usize, h: ProcessorHandle) -> ProcessorHandle
-    ensures { λ r. ⌜ r ≡ record { 0 = ordinalAt (meant t) (now (c .entry)) own (h .0) % 4294967296 } ⌝ }
+fn processor_ordinal(
+    c: &[u8],
+    marks: &[u64],
+    shift: u32,
+    own: usize,
+    h: ProcessorHandle,
+) -> ProcessorHandle
+    requires { ⌜ Every (Passed pptt (now c)) (now marks) ⌝ }
+    ensures { λ r. ⌜ r ≡ record { 0 = ordinalAt pptt (now (c .entry)) own (h .0) % 4294967296 } ⌝ }
 {
-    ProcessorHandle((ordinal(t, c, own, h.0 as usize) % 4294967296) as u32)
+    ProcessorHandle((ordinal(c, marks, shift, own, h.0 as usize) % 4294967296) as u32)
 }
 
-fn cache_ordinal(t: Table, c: &[u8], own: usize, h: CacheHandle) -> CacheHandle
-    ensures { λ r. ⌜ r ≡ record { 0 = ordinalAt (meant t) (now (c .entry)) own (h .0) % 4294967296 } ⌝ }
+fn cache_ordinal(c: &[u8], marks: &[u64], shift: u32, own: usize, h: CacheHandle) -> CacheHandle
+    requires { ⌜ Every (Passed pptt (now c)) (now marks) ⌝ }
+    ensures { λ r. ⌜ r ≡ record { 0 = ordinalAt pptt (now (c .entry)) own (h .0) % 4294967296 } ⌝ }
 {
-    CacheHandle((ordinal(t, c, own, h.0 as usize) % 4294967296) as u32)
+    CacheHandle((ordinal(c, marks, shift, own, h.0 as usize) % 4294967296) as u32)
 }
 
 // ---- lists
 
 // The resources of the processor at own. Returns the place behind them, as all that follow do.
 fn put_resources(
-    t: Table,
     c: &[u8],
+    marks: &[u64],
+    shift: u32,
     own: usize,
     body: &[u8],
     n: usize,
     out: &mut [u8],
     at: usize,
 ) -> usize
-    requires { ⌜ (n ≤ 1000000) × (at ≤ 2000000000000000) ⌝ }
-    ensures { λ r. ⌜ Laid (now (out .entry)) (now (out .exit)) at (each format.Resource (fieldsAt (ordinalAt (meant t) (now (c .entry)) own) (replicate n (to 1)) (now (body .entry)) 20)) r × (r ≤ at + 5 * n) ⌝ }
+    requires { ⌜ Every (Passed pptt (now c)) (now marks) × (n ≤ 1000000) × (at ≤ 2000000000000000) ⌝ }
+    ensures { λ r. ⌜ Laid (now (out .entry)) (now (out .exit)) at (each format.Resource (fieldsAt (ordinalAt pptt (now (c .entry)) own) (replicate n (to 1)) (now (body .entry)) 20)) r × (r ≤ at + 5 * n) ⌝ }
 {
     let mut p = at;
     let mut i = 0;
     while i < n {
-        let cache = cache_ordinal(t, c, own, ProcessorNode::resource(body, 0, i as u32));
+        let handle = ProcessorNode::resource(body, 0, i as u32);
+        let cache = cache_ordinal(c, marks, shift, own, handle);
         let resource = Resource { cache };
         p += resource.put_body(out, p);
         i += 1;
@@ -196,30 +215,41 @@ fn put_cells(body: &[u8], start: usize, t: usize, n: usize, out: &mut [u8], at: 
 }
 
 // ---- records: body is the bytes of one, own its place in a table's own bytes c
+// The nodes of a PPTT are read from windows of constant length: that saves the test of each place.
 
-fn put_processor(t: Table, c: &[u8], own: usize, body: &[u8], out: &mut [u8], at: usize) -> usize
-    requires { ⌜ (length (now body) ≤ limit) × (at ≤ 1500000000000000) ⌝ }
-    ensures { λ r. ⌜ Laid (now (out .entry)) (now (out .exit)) at (callsIn (ordinalAt (meant t) (now (c .entry)) own) (formIn processors (now (body .entry))) (now (body .entry))) r × (r ≤ at + 2000000) ⌝ }
+fn put_processor(
+    c: &[u8],
+    marks: &[u64],
+    shift: u32,
+    own: usize,
+    body: &[u8],
+    out: &mut [u8],
+    at: usize,
+) -> usize
+    requires { ⌜ Every (Passed pptt (now c)) (now marks) × (20 ≤ length (now body)) × (length (now body) ≤ limit) × (at ≤ 1500000000000000) ⌝ }
+    ensures { λ r. ⌜ Laid (now (out .entry)) (now (out .exit)) at (callsIn (ordinalAt pptt (now (c .entry)) own) (formIn processors (now (body .entry))) (now (body .entry))) r × (r ≤ at + 2000000) ⌝ }
 {
     let n = ProcessorNode::resources_in(body.len());
-    if out.len() <= at {
-        return at + (1 + ProcessorNode::BODY) + (1 + Resource::BODY) * n;
-    }
-    let node = ProcessorNode::get(body, 0);
-    let parent = processor_ordinal(t, c, own, node.parent);
+    let node = ProcessorNode::get(&body[..ProcessorNode::LEN], 0);
+    let parent = processor_ordinal(c, marks, shift, own, node.parent);
     let p = at + node.named(parent).put_body(out, at);
-    put_resources(t, c, own, body, n, out, p)
+    put_resources(c, marks, shift, own, body, n, out, p)
 }
 
-fn put_cache(t: Table, c: &[u8], own: usize, body: &[u8], out: &mut [u8], at: usize) -> usize
-    requires { ⌜ at ≤ 1500000000000000 ⌝ }
-    ensures { λ r. ⌜ Laid (now (out .entry)) (now (out .exit)) at (callsIn (ordinalAt (meant t) (now (c .entry)) own) cache (now (body .entry))) r × (r ≤ at + 28) ⌝ }
+fn put_cache(
+    c: &[u8],
+    marks: &[u64],
+    shift: u32,
+    own: usize,
+    body: &[u8],
+    out: &mut [u8],
+    at: usize,
+) -> usize
+    requires { ⌜ Every (Passed pptt (now c)) (now marks) × (length (now body) ≡ 28) × (at ≤ 1500000000000000) ⌝ }
+    ensures { λ r. ⌜ Laid (now (out .entry)) (now (out .exit)) at (callsIn (ordinalAt pptt (now (c .entry)) own) cache (now (body .entry))) r × (r ≤ at + 28) ⌝ }
 {
-    if out.len() <= at {
-        return at + (1 + CacheNode::BODY);
-    }
-    let node = CacheNode::get(body, 0);
-    let next_level = cache_ordinal(t, c, own, node.next_level);
+    let node = CacheNode::get(&body[..CacheNode::LEN], 0);
+    let next_level = cache_ordinal(c, marks, shift, own, node.next_level);
     at + node.named(next_level).put_body(out, at)
 }
 
@@ -277,22 +307,24 @@ fn is_known(row: Row) -> bool
     }
 }
 
-// The calls of a record of a row. A matrix of that row has at most 255 initiators and targets.
+// The calls of a record of a row of the table. It has the length that its row asks for, a matrix at most 255 initiators and targets; processors and caches are of a PPTT.
 fn put_record(
     t: Table,
     c: &[u8],
+    marks: &[u64],
+    shift: u32,
     own: usize,
     row: Row,
     body: &[u8],
     out: &mut [u8],
     at: usize,
 ) -> usize
-    requires { ⌜ Small (rowMeant row) (now body) × (at ≤ 1500000000000000) ⌝ }
+    requires { ⌜ Every (Passed (meant t) (now c)) (now marks) × Mine (meant t) (rowMeant row) × Small (rowMeant row) (now body) × (at ≤ 1500000000000000) ⌝ }
     ensures { λ r. ⌜ Laid (now (out .entry)) (now (out .exit)) at (callsAs (ordinalAt (meant t) (now (c .entry)) own) (rowMeant row) (now (body .entry))) r × (r ≤ at + 2000000) ⌝ }
 {
     match row {
-        Row::Processors => put_processor(t, c, own, body, out, at),
-        Row::Caches => put_cache(t, c, own, body, out, at),
+        Row::Processors => put_processor(c, marks, shift, own, body, out, at),
+        Row::Caches => put_cache(c, marks, shift, own, body, out, at),
         Row::Memories => at + MemoryAffinity::get(body, 0).put_body(out, at),
         Row::Initiators => at + GenericInitiator::get(body, 0).put_body(out, at),
         Row::Rintcs => at + RintcAffinity::get(body, 0).put_body(out, at),
@@ -300,6 +332,28 @@ fn put_record(
         Row::Matrices => put_matrix(body, out, at),
         Row::Sides => put_side(body, out, at),
         Row::Unknown => at,
+    }
+}
+
+// How many bytes these calls are: the lists of an HMAT are counted over a buffer without room.
+fn calls_len(row: Row, body: &[u8]) -> usize
+    requires { ⌜ Small (rowMeant row) (now body) ⌝ }
+    ensures { λ r. ⌜ ((g : ℕ → ℕ) → r ≡ length (callsAs g (rowMeant row) (now (body .entry)))) × (r ≤ 2000000) ⌝ }
+{
+    let mut none = [0u8; 0];
+    match row {
+        Row::Processors => {
+            (1 + ProcessorNode::BODY)
+                + (1 + Resource::BODY) * ProcessorNode::resources_in(body.len())
+        }
+        Row::Caches => 1 + CacheNode::BODY,
+        Row::Memories => 1 + MemoryAffinity::BODY,
+        Row::Initiators => GenericInitiator::get(body, 0).put_body(&mut none, 0),
+        Row::Rintcs => 1 + RintcAffinity::BODY,
+        Row::Domains => 1 + MemoryProximityDomain::BODY,
+        Row::Matrices => put_matrix(body, &mut none, 0),
+        Row::Sides => put_side(body, &mut none, 0),
+        Row::Unknown => 0,
     }
 }
 
@@ -355,11 +409,10 @@ impl ReadOut {
 
 // ---- the whole table
 
-// The calls of all records of a table's own bytes behind a head, up to the first unknown one; how long the recipe is.
-fn put_records(t: Table, revision: u8, c: &[u8], out: &mut [u8]) -> Measured
+// How long the recipe of a table's own bytes is, head and calls, up to the first unknown record.
+fn measure(t: Table, revision: u8, c: &[u8]) -> Measured
     requires { ⌜ length (now c) ≤ limit ⌝ }
     ensures { λ r. ⌜ measuredAs r ≡ measured (meant t) revision (now (c .entry)) ⌝ }
-    ensures { λ _. ⌜ now (out .exit) ≡ over (now (out .entry)) 28 (callsAt (meant t) revision (now (c .entry))) ⌝ }
 {
     let mut p = t.front();
     let mut q = 1 + TableHeader::BODY;
@@ -373,10 +426,61 @@ fn put_records(t: Table, revision: u8, c: &[u8], out: &mut [u8]) -> Measured
         if !is_known(row) {
             return Measured::Unknown(p);
         }
-        q = put_record(t, c, p, row, body, out, q);
+        q += calls_len(row, body);
         p += body.len();
     }
     Measured::Length(q)
+}
+
+// The calls of all records of a table's own bytes behind a head, up to the first unknown one.
+// Each record is marked under its place, for the references behind it.
+fn put_records(t: Table, revision: u8, c: &[u8], marks: &mut [u64], shift: u32, out: &mut [u8])
+    requires { ⌜ Every (Passed (meant t) (now c)) (now marks) × (length (now c) ≤ limit) ⌝ }
+    ensures { λ _. ⌜ now (out .exit) ≡ over (now (out .entry)) 28 (callsAt (meant t) revision (now (c .entry))) ⌝ }
+{
+    let mut p = t.front();
+    let mut q = 1 + TableHeader::BODY;
+    let mut count: u32 = 0;
+    while p < c.len() {
+        let mark = Mark {
+            nodes: count,
+            place: p as u32,
+        };
+        mark.note(marks, shift, p);
+        let s = field::rest(c, p);
+        if !frames::framed(t, s) {
+            return;
+        }
+        let body = frames::record_in(t, s);
+        let row = rows::row_of(t, revision, body);
+        if !is_known(row) {
+            return;
+        }
+        q = put_record(t, c, marks, shift, p, row, body, out, q);
+        p += body.len();
+        count += 1;
+    }
+}
+
+// The same with marks of its own: few where a PPTT is too short for as many processors; and one, which nothing asks for, where there are no references.
+fn put_calls(t: Table, revision: u8, c: &[u8], out: &mut [u8])
+    requires { ⌜ length (now c) ≤ limit ⌝ }
+    ensures { λ _. ⌜ now (out .exit) ≡ over (now (out .entry)) 28 (callsAt (meant t) revision (now (c .entry))) ⌝ }
+{
+    if let Table::Pptt = t {
+        if c.len() < ProcessorNode::LEN * marks::FEW {
+            let shift = marks::spread(c.len(), marks::FEW);
+            let mut few = [0u64; marks::FEW];
+            put_records(t, revision, c, &mut few, shift, out);
+            return;
+        }
+        let shift = marks::spread(c.len(), marks::MANY);
+        let mut many = [0u64; marks::MANY];
+        put_records(t, revision, c, &mut many, shift, out);
+        return;
+    }
+    let mut one = [0u64; 1];
+    put_records(t, revision, c, &mut one, 63, out);
 }
 
 // Writes the recipe of n bytes, where there is room for it.
@@ -389,7 +493,7 @@ fn put_recipe(t: Table, table: &[u8], n: usize, out: &mut [u8]) -> ReadOut
         return ReadOut::Room(n);
     }
     TableHeader::put_body(t, table, out);
-    put_records(t, TableHeader::revision_in(table), frames::own(table), out);
+    put_calls(t, TableHeader::revision_in(table), frames::own(table), out);
     ReadOut::Written(n)
 }
 
@@ -403,32 +507,23 @@ fn read_as(t: Table, table: &[u8], out: &mut [u8]) -> ReadOut
     if revision != t.revision() {
         return ReadOut::Revision;
     }
-    let mut none = [0u8; 1];
-    match put_records(t, revision, frames::own(table), &mut none) {
+    match measure(t, revision, frames::own(table)) {
         Measured::Length(n) => put_recipe(t, table, n, out),
         Measured::Unknown(p) => ReadOut::Unknown(p),
     }
 }
 
-// Reads out a table that is judged to be of table t.
-fn read_judged(t: Table, table: &[u8], out: &mut [u8]) -> ReadOut
-    requires { ⌜ judgeHead (now table) ≡ given (meant t) ⌝ }
-    ensures { λ r. ⌜ shown r ≡ readOut (now (table .entry)) (length (now (out .entry))) ⌝ }
-    ensures { λ _. ⌜ now (out .exit) ≡ outWritten (now (table .entry)) (now (out .entry)) ⌝ }
-{
-    match read::accept(table, u32::MAX) {
-        Accepted::Records(_) => read_as(t, table, out),
-        Accepted::Refused(r) => ReadOut::Refused(r),
-    }
-}
-
 // Writes the recipe of a table, in its normal form, into the front of a buffer; where it is refused, nothing.
+// An accepted table is signed: its header, judged and summed within, is not judged again.
 pub fn read_out(table: &[u8], out: &mut [u8]) -> ReadOut
     ensures { λ r. ⌜ shown r ≡ readOut (now (table .entry)) (length (now (out .entry))) ⌝ }
     ensures { λ _. ⌜ now (out .exit) ≡ outWritten (now (table .entry)) (now (out .entry)) ⌝ }
 {
-    match frames::judge_head(table) {
-        Judged::Table(t) => read_judged(t, table, out),
-        Judged::Refused(r) => ReadOut::Refused(r),
+    match read::accept(table, u32::MAX) {
+        Accepted::Records(_) => match frames::signed(table) {
+            Spelled::Table(t) => read_as(t, table, out),
+            Spelled::Other => ReadOut::Refused(Refusal::BadSign),
+        },
+        Accepted::Refused(r) => ReadOut::Refused(r),
     }
 }

@@ -6,13 +6,13 @@ use mathlib.Core.Bool.{Bool, true, false, not}
 use native.Mathlib.Omega.{arith}
 use native.Mathlib.Nat.{add-assoc}
 use native.Mathlib.Numerals.{add-one}
-use lib.ListN.{length}
+use lib.ListN.{length, take}
 use lib.Dec.{eqb, leb, ltb}
 use borrow.Author.Tests.{le-ltb}
 use denote.Enum.Declared.{tagOf}
 use types.Run.{OneOf, miss}
 use Rattle.format.specs.Bytes.{pick, all, firstOf, Answer, refused, given, unless, at}
-use Rattle.format.specs.Layout.{fields, refsGood}
+use Rattle.format.specs.Layout.{width, fields, refsGood}
 use Rattle.format.specs.Table.{Table, front, limit}
 use Rattle.format.specs.Form.{Form, processor, cache, memory, acpi, pci, rintc, domain, matrix, side, size, ranges}
 use Rattle.format.specs.Node.{Node, node, sizes, starts, atOrdinal}
@@ -21,17 +21,16 @@ use Rattle.format.specs.Recipe.{Step as Asked, Newest, aProcessor, aMatrix, aSi
 use Rattle.format.specs.Field.{badIn, badField}
 use Rattle.laws.proofs.Tests.{both-right}
 use Rattle.laws.proofs.Fits.{second}
-use Rattle.laws.proofs.Fields.{all-bad, good-fields}
-use Rattle.header.specs.Header.{meant}
+use Rattle.laws.proofs.Fields.{all-bad, good-fields, body-window}
 use Rattle.recipe.specs.declared.Newest as kept
 use Rattle.recipe.specs.declared.Newest.the-variants as is
 use Rattle.recipe.specs.declared.State.{State}
 use Rattle.recipe.specs.declared.Refusal.the-variants.{BadField, TooLong}
 use Rattle.recipe.specs.declared.Step.{Step}
 use Rattle.recipe.specs.declared.Step.the-variants.{Next, Refused}
-use Rattle.recipe.specs.Machine.{newestKept, stateOf, Sound, grown, madeBy, nodeTypes, refers, Finds, stepped, turn, Begins}
+use Rattle.recipe.specs.Machine.{newestKept, stateOf, Sound, grown, madeBy, typesOf, names, refers, Typed, stepped, turn}
 use Rattle.recipe.proofs.Newest.{the-type}
-use Rattle.recipe.proofs.Refers.{names-new, names-joined, found-or-none, found-named}
+use Rattle.recipe.proofs.Refers.{names-new, names-joined}
 
 -- ---- the tests one by one
 
@@ -59,6 +58,10 @@ turn-judged t ns k bs p =
     go false false false true e s = refl
     go false false false false true s = refl
     go false false false false false s = refl
+
+-- bytes behind the body do not matter
+pub turn-window : (t : Table) (ns : List Node) (k : Kind) (bs : List ℕ) (p : ℕ) → turn t ns k (take (width (body k)) bs) p ≡ turn t ns k bs p
+turn-window t ns k bs p = rw (body-window k bs (width (body k)) (omega arith))
 
 -- ---- the nodes grow
 
@@ -111,29 +114,27 @@ module _ (ok : ℕ → ℕ → Bool) (vs : List ℕ) where
   resource-refs = both-right _
 
 -- new nodes that have one
-module _ (t : Table) (ns : List Node) (s : State) (e : s ≡ stateOf t ns) (r : List ℕ) (b : Begins r t ns) (p : ℕ) (bs : List ℕ) (f : ℕ) where
+module _ (t : Table) (ns : List Node) (s : State) (e : s ≡ stateOf t ns) (ws : List ℕ) (w : Typed ws (typesOf ns)) (p : ℕ) (bs : List ℕ) where
   abbrev referred : ℕ → ℕ → Bool
-  referred to ty = pick (eqb to 0) true (pick (ltb to (s .nodes + 1)) (eqb f ty) false)
+  referred to ty = pick (eqb to 0) true (names ws (s .nodes + 1) to ty)
 
-  pub processor-turn : Finds (nodeTypes (meant (s .table)) r) (refers Processor bs) f
-      → turn t ns Processor bs p ≡ pick (not (referred (refers Processor bs) 0)) (refused 6 p) (stepped p (grown s (s .nodes + 1) 20 (is.Processor 0)))
+  pub processor-turn : turn t ns Processor bs p ≡ pick (not (referred (refers Processor bs) 0)) (refused 6 p) (stepped p (grown s (s .nodes + 1) 20 (is.Processor 0)))
   unfolding step
-  processor-turn found =
+  processor-turn =
       turn-judged t ns Processor bs p
-      ∙ rw (processor-refs (atOrdinal (starts t ns)) (fields (body Processor) bs), ← found-or-none (nodeTypes (meant (s .table)) r) (s .nodes + 1) (refers Processor bs) 0 f found, names-new r t ns s e b (refers Processor bs) 0, made-turn t ns (processor 0) (fields (body Processor) bs) p s e)
+      ∙ rw (processor-refs (atOrdinal (starts t ns)) (fields (body Processor) bs), names-new ws t ns s e w (refers Processor bs) 0, made-turn t ns (processor 0) (fields (body Processor) bs) p s e)
 
-  pub cache-turn : (bad : ℕ) → bad ≡ badField (node cache (fields (body Cache) bs)) → Finds (nodeTypes (meant (s .table)) r) (refers Cache bs) f
+  pub cache-turn : (bad : ℕ) → bad ≡ badField (node cache (fields (body Cache) bs))
       → turn t ns Cache bs p
       ≡ pick (not (eqb bad 0)) (refused 5 p) (pick (not (referred (refers Cache bs) 1)) (refused 6 p) (stepped p (grown s (s .nodes + 1) 28 is.Other)))
   unfolding step
-  cache-turn bad h found =
+  cache-turn bad h =
       turn-judged t ns Cache bs p
       ∙ rw (
         good-fields (node cache (fields (body Cache) bs)),
         ← h,
         cache-refs (atOrdinal (starts t ns)) (fields (body Cache) bs),
-        ← found-or-none (nodeTypes (meant (s .table)) r) (s .nodes + 1) (refers Cache bs) 1 f found,
-        names-new r t ns s e b (refers Cache bs) 1,
+        names-new ws t ns s e w (refers Cache bs) 1,
         made-turn t ns cache (fields (body Cache) bs) p s e,
       )
 
@@ -201,29 +202,28 @@ module _ (t : Table) (ns : List Node) (s : State) (e : s ≡ stateOf t ns) where
 -- ---- records that join it
 
 module _ (t : Table) (s : State) (p : ℕ) (bs : List ℕ) where
-  module _ (n : ℕ) (r : List ℕ) (f : ℕ) (found : Finds (nodeTypes (meant (s .table)) r) (refers Resource bs) f) where
+  module _ (n : ℕ) (ws : List ℕ) where
     -- the answer to a resource behind a processor with n of them
     abbrev withResource : Answer State
     withResource =
-        pick (not (pick (eqb (refers Resource bs) 0) false (pick (ltb (refers Resource bs) (s .nodes)) (eqb f 1) false))) (refused 6 p)
+        pick (not (names ws (s .nodes) (refers Resource bs) 1)) (refused 6 p)
         (pick (leb 58 n) (refused 7 p) (stepped p (grown s (s .nodes) 4 (is.Processor (n + 1)))))
 
-    resource-at : (us : List ℕ) (ms : List Node) → s ≡ stateOf t (node (processor n) us ∷ ms) → Begins r t (node (processor n) us ∷ ms)
+    resource-at : (us : List ℕ) (ms : List Node) → s ≡ stateOf t (node (processor n) us ∷ ms) → Typed ws (typesOf (node (processor n) us ∷ ms))
         → turn t (node (processor n) us ∷ ms) Resource bs p ≡ withResource
     unfolding step resource sizes
-    resource-at us ms e b =
+    resource-at us ms e w =
         let ns : List Node = node (processor n) us ∷ ms in
         let more : List Node = node (processor (suc n)) (us ++ fields (body Resource) bs) ∷ ms in
         turn-judged t ns Resource bs p
         ∙ rw (
           resource-refs (atOrdinal (starts t ms)) (fields (body Resource) bs),
-          ← found-named (nodeTypes (meant (s .table)) r) (s .nodes) (refers Resource bs) 1 f found,
-          names-joined r t (node (processor n) us) ms s e b (refers Resource bs) 1,
+          names-joined ws t (node (processor n) us) ms s e w (refers Resource bs) 1,
           grown-turn t ns more p s (s .nodes) 4 (is.Processor (n + 1)) e (rw e refl) (omega arith) (ap is.Processor (add-one n)),
         )
 
-    pub resource-turn : (ns : List Node) → s ≡ stateOf t ns → s .newest ≡ is.Processor n → Begins r t ns → turn t ns Resource bs p ≡ withResource
-    resource-turn ns e h b = let (us, ms, q) = parted t ns s (is.Processor n) e h in rw q (resource-at us ms (rw q at e) (rw q at b))
+    pub resource-turn : (ns : List Node) → s ≡ stateOf t ns → s .newest ≡ is.Processor n → Typed ws (typesOf ns) → turn t ns Resource bs p ≡ withResource
+    resource-turn ns e h w = let (us, ms, q) = parted t ns s (is.Processor n) e h in rw q (resource-at us ms (rw q at e) (rw q at w))
 
   module _ (n : ℕ) where
     -- the answer to a handle behind a side cache with n of them

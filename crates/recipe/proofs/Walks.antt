@@ -1,155 +1,117 @@
 -- The records of a recipe from a place on: one more is cut off and judged, or the cut ends there. What the pass keeps stays true.
-use mathlib.Core.Path.{_≡_, refl, sym, _∙_, ap}
-use Prim.Native.Nat.{ℕ, zero, suc, _+_, _≤_, _<_}
-use mathlib.Core.List.{List, [], _∷_, _++_, append-assoc, append-nil}
+use mathlib.Core.Path.{_≡_, refl, sym, _∙_}
+use Prim.Native.Nat.{ℕ, suc, _+_, _*_, _/_, _%_, _^_, _≤_, _<_}
+use mathlib.Core.List.{List, [], _∷_}
 use mathlib.Core.Bool.{Bool, true, false}
 use mathlib.Core.Option.{none, some}
 use native.Mathlib.Omega.{arith}
 use native.Mathlib.Numerals.{add-one}
-use lib.ListN.{length, drop, getD, drop-of-length-le, length-drop}
-use lib.Seq.{drop-drop, getD-drop}
+use lib.ListN.{length, drop, set, drop-of-length-le, length-drop, length-set}
+use lib.Seq.{drop-drop}
 use lib.Dec.{eqb, leb, ltb}
-use borrow.Author.Tests.{le-ltb, lt-ltb, eq-eqb, ne-eqb, eqb-true, leb-true}
-use native.Mathlib.Nat.{add-zero}
+use borrow.Author.Tests.{le-ltb, lt-ltb, ne-eqb, eqb-true, leb-true}
 use Rattle.format.specs.Bytes.{pick, at, Answer, refused, given, unless, value, part}
 use Rattle.format.specs.Layout.{asIs, width, fields, refsGood}
 use Rattle.format.specs.Table.{Table, pptt, srat, hmat, code, front, limit, Head, headOf}
-use Rattle.format.specs.Form.{processor, matrix, side, typeOf}
+use Rattle.format.specs.Form.{Form, processor, cache, memory, acpi, pci, rintc, domain, matrix, side, typeOf, size}
 use Rattle.format.specs.Node.{Node, sizes}
-use Rattle.format.specs.Kind.{Kind, Processor, Resource, Cache, Memory, Acpi, Pci, Rintc, Domain, Matrix, Initiator, Target, Cell, Side, Handle, kindOf, body}
-use Rattle.format.specs.Recipe.{Newest, aProcessor, aMatrix, aSide, other, cutAs, skip, cut, newest, resource, handle, setting, step, added, fault, since, run, tableOf, headed, meaning}
+use Rattle.format.specs.Kind.{Kind, Processor, Resource, Cache, Cell, kindNumber, kindOf, body}
+use Rattle.format.specs.Recipe.{Newest, cutAs, skip, cut, resource, step, added, fault, since, run, tableOf, headed, meaning}
 use Rattle.laws.proofs.Bytes.{drop-turn, value-byte}
 use Rattle.laws.proofs.Finds.{never, unless-given}
 use Rattle.laws.proofs.Lays.{both-true}
 use Rattle.laws.proofs.Offsets.{fields-at}
-use Rattle.laws.proofs.Grows.{passed}
+use Rattle.laws.proofs.Grows.{View, seesProcessor, seesMatrix, seesSide, seesOther, view, passed}
+use Rattle.laws.proofs.Builds.{kind-home}
 use Rattle.laws.proofs.Calls.{cut-skip}
 use Rattle.laws.proofs.Settings.{table-back}
 use Rattle.laws.proofs.Links.{size-pos}
 use Rattle.header.specs.declared.Table.the-variants.{Hmat}
-use Rattle.header.specs.Header.{meant}
+use Rattle.header.specs.Header.{meant, tableNamed}
 use Rattle.hmat.specs.Settings.{goodCell}
-use Rattle.recipe.specs.declared.Newest as kept
 use Rattle.recipe.specs.declared.Newest.the-variants as is
 use Rattle.recipe.specs.declared.Refusal.{Refusal}
 use Rattle.recipe.specs.declared.State.{State}
 use Rattle.recipe.specs.declared.Step.{Step}
 use Rattle.recipe.specs.declared.Step.the-variants.{Next, Refused}
 use Rattle.recipe.specs.Answers.{number, outlined}
-use Rattle.recipe.specs.Machine.{newestKept, stateOf, Sound, none-made, makes, made, madeAs, typesIn, nodeTypes, typesOf, TurnsIn, refers, Finds, TurnsFor, whole, Stands}
-use Rattle.recipe.proofs.Steps.{Parted, parted-all, set-turn}
-use Rattle.recipe.proofs.Refers.{meant-named, found-here}
+use Rattle.recipe.specs.Machine.{stateOf, Sound, typesOf, Bits, Typed, Clear, noted, stepped, turn, TurnsWith, whole, Stands}
+use Rattle.recipe.proofs.Types.{bits-parts, clear-next, typed-zero, typed-one}
+use Rattle.recipe.proofs.Refers.{length-types}
+use Rattle.recipe.proofs.Steps.{set-turn}
 
 -- ---- one record more
 
-types-skip : (t : Table) (n : ℕ) (bs : List ℕ) → typesIn t n bs ≡ typesIn t 0 (drop n bs)
-unfolding typesIn
-types-skip t zero bs = refl
-types-skip t (suc n) [] = refl
-types-skip t (suc n) (b ∷ bs) = types-skip t n bs
-
-module _ (t : Table) (r : List ℕ) (p : ℕ) (h : p < length r) where
-  -- what follows the record at p
-  cut-at : cut t 0 p (drop p r)
-      ≡ cutAs (kindOf t (at r p)) (drop (p + 1) r) p (cut t 0 (p + 1 + skip (kindOf t (at r p))) (drop (p + 1 + skip (kindOf t (at r p))) r))
-  unfolding cut
-  cut-at =
-      let n = skip (kindOf t (at r p)) in
-      rw (drop-turn r p h, cut-skip t n (suc p) (drop (p + 1) r), drop-drop n (p + 1) r, ← add-one p)
-
-  types-at : typesIn t 0 (drop p r) ≡ madeAs (kindOf t (at r p)) (typesIn t 0 (drop (p + 1 + skip (kindOf t (at r p))) r))
-  unfolding typesIn
-  types-at =
-      let n = skip (kindOf t (at r p)) in
-      rw (drop-turn r p h, types-skip t n (drop (p + 1) r), drop-drop n (p + 1) r)
-
-  pub types-none : kindOf t (at r p) ≡ none → typesIn t 0 (drop p r) ≡ []
-  types-none e = rw (types-at, e)
-
-  -- of a record of kind k
-  module _ (k : Kind) (e : kindOf t (at r p) ≡ some k) where
-    pub types-some : typesIn t 0 (drop p r) ≡ made k ++ typesIn t 0 (drop (p + 1 + width (body k)) r)
-    types-some = rw (types-at, e)
-
-    -- n nodes are made before it
-    module _ (n : ℕ) (l : typesIn t 0 (drop p r) ≡ drop n (nodeTypes t r)) where
-      pub leads-joined : makes k ≡ none-made → typesIn t 0 (drop (p + 1 + width (body k)) r) ≡ drop n (nodeTypes t r)
-      leads-joined z = sym (types-some ∙ rw (eq-eqb _ _ z)) ∙ l
-
-      made-first : (makes k ≡ none-made → ⊥) → makes k ∷ typesIn t 0 (drop (p + 1 + width (body k)) r) ≡ drop n (nodeTypes t r)
-      made-first z = sym (types-some ∙ rw (ne-eqb _ _ z)) ∙ l
-
-      pub leads-here : (makes k ≡ none-made → ⊥) → makes k ≡ getD (nodeTypes t r) n none-made
-      leads-here z = ap (λ (ts : List ℕ). getD ts 0 none-made) (made-first z) ∙ getD-drop n (nodeTypes t r) 0 none-made ∙ rw add-zero
-
-      pub leads-past : (makes k ≡ none-made → ⊥) → typesIn t 0 (drop (p + 1 + width (body k)) r) ≡ drop (n + 1) (nodeTypes t r)
-      leads-past z = ap (λ (ts : List ℕ). drop 1 ts) (made-first z) ∙ drop-drop 1 n (nodeTypes t r)
-
--- no node is made from a place on
-pub leads-nowhere : (ts : List ℕ) (i n j : ℕ) → drop n ts ≡ [] → n + j ≡ i → none-made ≡ getD ts i none-made
-leads-nowhere ts i n j z e = sym (rw (← e, ← getD-drop n ts j none-made, z))
+-- what follows the record at p
+cut-at : (t : Table) (r : List ℕ) (p : ℕ) → p < length r → cut t 0 p (drop p r)
+    ≡ cutAs (kindOf t (at r p)) (drop (p + 1) r) p (cut t 0 (p + 1 + skip (kindOf t (at r p))) (drop (p + 1 + skip (kindOf t (at r p))) r))
+unfolding cut
+cut-at t r p h =
+    let n = skip (kindOf t (at r p)) in
+    rw (drop-turn r p h, cut-skip t n (suc p) (drop (p + 1) r), drop-drop n (p + 1) r, ← add-one p)
 
 -- ---- the types of the nodes with one record more
 
--- by what the newest of ns is
-abbrev typesSeen : List Node → Newest → List ℕ
-typesSeen ns (aProcessor n us ms) = typesOf ms ++ (typeOf (processor n) ∷ [])
-typesSeen ns (aMatrix i j us ms) = typesOf ms ++ (typeOf (matrix i j) ∷ [])
-typesSeen ns (aSide n us ms) = typesOf ms ++ (typeOf (side n) ∷ [])
-typesSeen ns other = typesOf ns
+-- a resource does not change the type of the newest node
+types-resource : {ns : List Node} {x : Newest} (vs : List ℕ) → View ns x → resource vs x .placed ≡ true → typesOf (resource vs x .nodes) ≡ typesOf ns
+unfolding resource typesOf
+types-resource vs seesProcessor h = refl
+types-resource vs seesMatrix h = never h
+types-resource vs seesSide h = never h
+types-resource vs seesOther h = never h
 
-types-seen : (ns : List Node) → typesSeen ns (newest ns) ≡ typesOf ns
-unfolding typesOf
-types-seen ns = go (newestKept (newest ns)) (parted-all ns)
+-- a record of 16 bytes has no type that is a bit
+long-enough : (f : Form) → typeOf f < 2 → 20 ≤ size f
+long-enough (processor n) h = omega arith
+long-enough cache h = omega arith
+long-enough memory h = omega arith
+long-enough acpi h = absurd (omega arith)
+long-enough pci h = absurd (omega arith)
+long-enough rintc h = absurd (omega arith)
+long-enough domain h = omega arith
+long-enough (matrix i t) h = omega arith
+long-enough (side n) h = absurd (omega arith)
+
+-- so a PPTT has a node for 20 bytes at most
+fewer : (ns : List Node) → Bits (typesOf ns) → 20 * length ns ≤ sizes ns
+unfolding typesOf sizes
+fewer [] h = omega arith
+fewer (n ∷ ns) h =
+    let (x, y) = bits-parts (typesOf ns) (typeOf (n .form) ∷ []) h in
+    omega (arith, fewer ns x, long-enough (n .form) (y .0))
+
+-- there is a clear bit for the next node of a PPTT
+next-clear : (ws : List ℕ) (ns : List Node) → sizes ns ≤ limit → Typed ws (typesOf ns) → Clear ws (length ns)
+next-clear ws ns l w =
+    rw (length-types ns) at (clear-next ws (typesOf ns) w (omega (arith, length-types ns, fewer ns (w .two))))
+
+-- one record more of a PPTT: what is noted are the types then
+types-added : (b : ℕ) (k : Kind) (vs : List ℕ) (ns : List Node) (ws : List ℕ)
+    → kindOf pptt b ≡ some k → step k vs ns .placed ≡ true → sizes ns ≤ limit → Typed ws (typesOf ns) → Typed (noted k (length ns) ws) (typesOf (added k vs ns))
+unfolding kindOf step typesOf
+types-added b k vs ns ws e h l w = by (eqb b 16) (eqb b 17) (eqb b 18) e
   where
-    go : (w : kept.Newest) → Parted w ns → typesSeen ns (newest ns) ≡ typesOf ns
-    go (is.Processor n) (us, ms, q) = rw q
-    go (is.Matrix i j) (us, ms, q) = rw q
-    go (is.Side n) (us, ms, q) = rw q
-    go is.Other q = rw q
+    by : (x y z : Bool) → pick x (some Processor) (pick y (some Resource) (pick z (some Cache) none)) ≡ some k → Typed (noted k (length ns) ws) (typesOf (added k vs ns))
+    by true y z e = let q : Processor ≡ k = cc in rw (← q) (typed-zero ws (typesOf ns) w)
+    by false true z e = let q : Resource ≡ k = cc in rw (← q, types-resource vs (view ns) (rw (← q) at h)) w
+    by false false true e =
+        let q : Cache ≡ k = cc in
+        rw (← q, ← length-types ns) (typed-one ws (typesOf ns) w (rw length-types (next-clear ws ns l w .there)))
+    by false false false e = absurd (let z : _≡_ {A = ℕ} 0 1 = cc in omega arith)
 
--- a record that joins the newest node does not change its type
-module _ (ns : List Node) where
-  types-resource : (vs : List ℕ) (x : Newest) → resource vs x .placed ≡ true → typesOf (resource vs x .nodes) ≡ typesSeen ns x
-  unfolding resource typesOf
-  types-resource vs (aProcessor n us ms) h = refl
-  types-resource vs (aMatrix i j us ms) h = never h
-  types-resource vs (aSide n us ms) h = never h
-  types-resource vs other h = never h
-
-  types-handle : (vs : List ℕ) (x : Newest) → handle vs x .placed ≡ true → typesOf (handle vs x .nodes) ≡ typesSeen ns x
-  unfolding handle typesOf
-  types-handle vs (aProcessor n us ms) h = never h
-  types-handle vs (aMatrix i j us ms) h = never h
-  types-handle vs (aSide n us ms) h = refl
-  types-handle vs other h = never h
-
-  types-setting : (tests : ℕ → ℕ → List Bool) (field : ℕ → ℕ → ℕ) (v : ℕ) (x : Newest)
-      → setting tests field v x .placed ≡ true → typesOf (setting tests field v x .nodes) ≡ typesSeen ns x
-  unfolding setting typesOf
-  types-setting tests field v (aProcessor n us ms) h = never h
-  types-setting tests field v (aMatrix i j us ms) h = refl
-  types-setting tests field v (aSide n us ms) h = never h
-  types-setting tests field v other h = never h
-
-types-added : (k : Kind) (vs : List ℕ) (ns : List Node) → step k vs ns .placed ≡ true → typesOf (added k vs ns) ≡ typesOf ns ++ made k
-unfolding step typesOf
-types-added Processor vs ns h = refl
-types-added Resource vs ns h = types-resource ns vs (newest ns) h ∙ types-seen ns ∙ sym (append-nil (typesOf ns))
-types-added Cache vs ns h = refl
-types-added Memory vs ns h = refl
-types-added Acpi vs ns h = refl
-types-added Pci vs ns h = refl
-types-added Rintc vs ns h = refl
-types-added Domain vs ns h = refl
-types-added Matrix vs ns h = refl
-types-added Initiator vs ns h = types-setting ns _ _ _ (newest ns) h ∙ types-seen ns ∙ sym (append-nil (typesOf ns))
-types-added Target vs ns h = types-setting ns _ _ _ (newest ns) h ∙ types-seen ns ∙ sym (append-nil (typesOf ns))
-types-added Cell vs ns h = types-setting ns _ _ _ (newest ns) h ∙ types-seen ns ∙ sym (append-nil (typesOf ns))
-types-added Side vs ns h = refl
-types-added Handle vs ns h = types-handle ns vs (newest ns) h ∙ types-seen ns ∙ sym (append-nil (typesOf ns))
+pub length-noted : (k : Kind) (i : ℕ) (ws : List ℕ) → length (noted k i ws) ≡ length ws
+length-noted k i ws = by (eqb (kindNumber k) (kindNumber Cache))
+  where
+    by : (x : Bool) → length (pick x (set ws (i / 64) (at ws (i / 64) + 2 ^ (i % 64))) ws) ≡ length ws
+    by true = length-set ws (i / 64) _
+    by false = refl
 
 -- ---- the pass
+
+meant-named : (t : Table) → meant (tableNamed t) ≡ t
+meant-named pptt = refl
+meant-named srat = refl
+meant-named hmat = refl
 
 front-short : (t : Table) → front t + 0 ≤ limit
 front-short pptt = omega arith
@@ -170,11 +132,11 @@ refused-also f n p x b e = go (eqb f 0) e
     go false e = let z : f ≡ n = cc in rw z
 
 module _ (r : List ℕ) (h : Head) where
-  pub starts-so : Stands r h 28 (stateOf (h .table) [])
+  pub starts-so : (ws : List ℕ) → (h .table ≡ pptt → Typed ws []) → Stands r h 28 (stateOf (h .table) []) ws
   unfolding typesOf sizes
-  starts-so = record { nodes = []; newer = 0; is = refl; short = front-short (h .table); begun = refl; same = refl }
+  starts-so ws z = record { nodes = []; newer = 0; is = refl; short = front-short (h .table); typed = z; same = refl }
 
-  module _ (p : ℕ) (s : State) (w : Stands r h p s) where
+  module _ (p : ℕ) (s : State) (ws : List ℕ) (w : Stands r h p s ws) where
     pub sound : Sound s
     sound =
         let l : front (h .table) + sizes (w .nodes) ≤ limit = w .short in
@@ -203,37 +165,37 @@ module _ (r : List ℕ) (h : Head) where
           unfolding cutAs run vs
           called-at = w .same ∙ rw (cut-at (h .table) r p l, e, le-ltb _ _ c)
 
-          pub stops : (f : Refusal) → TurnsIn r k (drop (p + 1) r) s (Refused f) → whole r h ≡ refused (number f) p
-          unfolding vs
-          stops f d = called-at ∙ refused-also (fault (h .table) (w .nodes) k vs) (number f) p _ _ (d (h .table) (w .nodes) p (w .is) (_, w .begun))
+          module _ (x : Step) (d : TurnsWith ws k (drop (p + 1) r) s x) where
+            turned : stepped p x ≡ turn (h .table) (w .nodes) k (drop (p + 1) r) p
+            turned = d (h .table) (w .nodes) p (w .is) (at r p) e (w .typed)
 
-          pub goes : (s′ : State) → TurnsIn r k (drop (p + 1) r) s (Next s′) → Stands r h (p + 1 + width (body k)) s′
-          unfolding vs
-          goes s′ d =
-              let (z, g) = unless-given (fault (h .table) (w .nodes) k vs) p (given (stateOf (h .table) (added k vs (w .nodes)))) (sym (d (h .table) (w .nodes) p (w .is) (_, w .begun))) in
-              let y = passed (h .table) (w .nodes) k vs z in
-              record {
-                nodes = added k vs (w .nodes);
-                newer = since (w .nodes) (added k vs (w .nodes)) p (w .newer);
-                is = cc;
-                short = y .short;
-                begun = w .begun ∙ rw (types-some (h .table) r p l k e, types-added k vs (w .nodes) (y .place), append-assoc);
-                same = called-at ∙ rw z;
-              }
+            pub stops : (f : Refusal) → x ≡ Refused f → whole r h ≡ refused (number f) p
+            unfolding vs
+            stops f q = called-at ∙ refused-also (fault (h .table) (w .nodes) k vs) (number f) p _ _ (rw q at turned)
 
--- the table of the state is the head's, and only a PPTT's records name a node
-module _ (r : List ℕ) (h : Head) (p : ℕ) (s : State) (w : Stands r h p s) where
-  table-of : meant (s .table) ≡ h .table
-  table-of = rw (w .is) (meant-named (h .table))
+            pub goes : (s′ : State) → x ≡ Next s′ → Stands r h (p + 1 + width (body k)) s′ (noted k (s .nodes) ws)
+            unfolding vs
+            goes s′ q =
+                let (z, g) = unless-given (fault (h .table) (w .nodes) k vs) p (given (stateOf (h .table) (added k vs (w .nodes)))) (sym (rw q at turned)) in
+                let y = passed (h .table) (w .nodes) k vs z in
+                let l : sizes (w .nodes) ≤ limit = omega (arith, w .short) in
+                record {
+                  nodes = added k vs (w .nodes);
+                  newer = since (w .nodes) (added k vs (w .nodes)) p (w .newer);
+                  is = cc;
+                  short = y .short;
+                  typed = λ t. rw (w .is) (types-added (at r p) k vs (w .nodes) ws (rw t at e) (y .place) l (w .typed t));
+                  same = called-at ∙ rw z;
+                }
 
-  pub looked-turn : (k : Kind) (bs : List ℕ) (f : ℕ) (r′ : Step) → kindOf (h .table) (at r p) ≡ some k → Finds (nodeTypes pptt r) (refers k bs) f → TurnsFor f k bs s r′ → TurnsIn r k bs s r′
-  looked-turn k bs f r′ e found d = d r (rw table-of (found-here (h .table) r bs (at r p) f k e found))
+        pub clear : k ≡ Cache → Clear ws (s .nodes)
+        clear q = rw (w .is) (next-clear ws (w .nodes) (omega (arith, w .short)) (w .typed (sym (kind-home (h .table) (at r p) Cache (rw q at e)))))
 
 pub cell-fits : (r : List ℕ) (p i t : ℕ) → goodCell r p i t ≡ true → p + 5 ≤ length r
 cell-fits r p i t good = leb-true (p + 5) (length r) (both-true (leb (p + 5) (length r)) _ (both-true (eqb (at r p) 52) _ good .1) .0)
 
 -- a good cell leaves the state as it is
-module _ (r : List ℕ) (h : Head) (p : ℕ) (s : State) (w : Stands r h p s) (i t : ℕ) (own : s .table ≡ Hmat) (behind : s .newest ≡ is.Matrix i t) (good : goodCell r p i t ≡ true) where
+module _ (r : List ℕ) (h : Head) (p : ℕ) (s : State) (ws : List ℕ) (w : Stands r h p s ws) (i t : ℕ) (own : s .table ≡ Hmat) (behind : s .newest ≡ is.Matrix i t) (good : goodCell r p i t ≡ true) where
   tests : (at r p ≡ 52) × (ltb (at r (p + 1)) i ≡ true) × (ltb (at r (p + 2)) t ≡ true)
   tests =
       let (a, x) = both-true (eqb (at r p) 52) _ good in
@@ -242,20 +204,20 @@ module _ (r : List ℕ) (h : Head) (p : ℕ) (s : State) (w : Stands r h p s) (i
 
   named : kindOf (h .table) (at r p) ≡ some Cell
   unfolding kindOf
-  named = rw (← table-of r h p s w, own, tests .0)
+  named = let m : meant (s .table) ≡ h .table = rw (w .is) (meant-named (h .table)) in rw (← m, own, tests .0)
 
-  turns : TurnsIn r Cell (drop (p + 1) r) s (Next s)
+  turns : TurnsWith ws Cell (drop (p + 1) r) s (Next s)
   unfolding body step refsGood
-  turns u ns q e b =
+  turns u ns q e b z y =
       let two : p + 1 + 1 ≡ p + 2 = omega arith in
-      sym (set-turn u s q (drop (p + 1) r) i t Cell _ _ _ (sound r h p s w) (λ ms. refl) (λ ok vs. refl) ns e behind
+      sym (set-turn u s q (drop (p + 1) r) i t Cell _ _ _ (sound r h p s ws w) (λ ms. refl) (λ ok vs. refl) ns e behind
       ∙ rw (fields-at asIs (body Cell) r (p + 1), two, ← value-byte r (p + 1), ← value-byte r (p + 2), tests .1, tests .2))
 
-  pub cell-passed : Stands r h (p + 1 + 4) s
+  pub cell-passed : Stands r h (p + 1 + 4) s ws
   unfolding width body
   cell-passed =
       let l : p + 5 ≤ length r = cell-fits r p i t good in
-      goes r h p s w (omega arith) Cell named (rw length-drop (omega arith)) s turns
+      goes r h p s ws w (omega arith) Cell named (rw length-drop (omega arith)) (Next s) turns s refl
 
 -- ---- the head
 

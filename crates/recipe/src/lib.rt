@@ -3,8 +3,8 @@ ghost use mathlib.Core.Path.{_≡_};
 ghost use Prim.Native.Nat.{ℕ, _+_, _≤_, _<_};
 ghost use mathlib.Core.List.{List, []};
 ghost use mathlib.Core.Bool.{true, false};
-ghost use lib.ListN.{drop, getD};
-ghost use lib.Dec.{eqb, ltb};
+ghost use lib.ListN.{length, drop};
+ghost use lib.Dec.{eqb};
 ghost use Rattle.format.specs.Bytes.{pick, part};
 ghost use Rattle.format.specs.Layout.{width};
 ghost use Rattle.format.specs.Table.{pptt, limit, Head, headOf};
@@ -12,9 +12,9 @@ ghost use Rattle.format.specs.Kind.{kindNumber, kindOf, body};
 ghost use Rattle.format.specs.Recipe.{cut, run, meaning};
 ghost use Rattle.format.specs.Kind as format;
 ghost use Rattle.header.specs.Header.{meant};
-ghost use Rattle.recipe.specs.Kinds.{meantKind, named, referenceOf, ordinalIn};
+ghost use Rattle.recipe.specs.Kinds.{meantKind, named, referenceOf};
 ghost use Rattle.recipe.specs.Answers.{shown, outlined};
-ghost use Rattle.recipe.specs.Machine.{stateOf, Sound, grown, madeBy, nodeTypes, makes, Finds, Leads, Leading, Turns, TurnsFor, Stands};
+ghost use Rattle.recipe.specs.Machine.{stateOf, Sound, grown, madeBy, bitAt, Clear, noted, names, Typed, Turns, TurnsWith, Stands};
 use header::Table;
 use header::TableHeader;
 use hmat::Cell;
@@ -23,8 +23,6 @@ use hmat::MemorySideCache;
 use hmat::SmbiosHandle;
 use hmat::SystemLocality;
 use hmat::Value;
-use marks::Mark;
-use marks::Marks;
 use pptt::CacheHandle;
 use pptt::CacheNode;
 use pptt::ProcessorHandle;
@@ -70,9 +68,6 @@ pub enum Reference {
 }
 
 impl Kind {
-    // What makes(..) says of a record that joins a node.
-    const NOTHING: u8 = 255;
-
     // The number of bytes that follow the kind byte.
     pub fn body_len(self) -> usize
         ensures { λ r. ⌜ r ≡ width (body (meantKind self)) ⌝ }
@@ -92,28 +87,6 @@ impl Kind {
             Kind::Cell => Cell::BODY,
             Kind::Side => MemorySideCache::BODY,
             Kind::Handle => SmbiosHandle::BODY,
-        }
-    }
-
-    // The type of the node that a record makes.
-    fn makes(self) -> u8
-        ensures { λ r. ⌜ r ≡ makes (meantKind self) ⌝ }
-    {
-        match self {
-            Kind::Processor => ProcessorNode::TYPE,
-            Kind::Cache => CacheNode::TYPE,
-            Kind::Memory => MemoryAffinity::TYPE,
-            Kind::Acpi => GenericInitiator::TYPE,
-            Kind::Pci => GenericInitiator::TYPE,
-            Kind::Rintc => RintcAffinity::TYPE,
-            Kind::Domain => MemoryProximityDomain::TYPE as u8,
-            Kind::Matrix => SystemLocality::TYPE as u8,
-            Kind::Side => MemorySideCache::TYPE as u8,
-            Kind::Resource => Self::NOTHING,
-            Kind::Initiator => Self::NOTHING,
-            Kind::Target => Self::NOTHING,
-            Kind::Cell => Self::NOTHING,
-            Kind::Handle => Self::NOTHING,
         }
     }
 
@@ -292,122 +265,35 @@ impl State {
 
 // ---- references
 
-// A node that was looked for: its record, and its type.
-struct Found {
-    mark: Mark,
-    ty: u8,
-}
+// The words that hold a bit for each node of a PPTT, at 64 a word: its shortest node is a processor without resources.
+const WORDS: usize = header::LIMIT / ProcessorNode::LEN / 64 + 1;
 
-// The marks, and the type of the node that was looked for last.
-struct Looked {
-    marks: Marks,
-    ty: u8,
-}
-
-// The first record.
-fn first() -> Mark
-    ensures { λ r. ⌜ r ≡ record { nodes = 0; place = 28 } ⌝ }
+// The type of node i of a PPTT, counted from 0: a bit.
+fn type_at(types: &[u64], i: usize) -> u8
+    ensures { λ r. ⌜ r ≡ bitAt (now (types .entry)) i ⌝ }
 {
-    Mark {
-        nodes: 0,
-        place: HEAD_LEN,
+    let j = i / 64;
+    if types.len() <= j {
+        return 0;
     }
+    ((types[j] >> (i % 64)) % 2) as u8
 }
 
-// The recipe's node i, counted from 0, looked for from a mark on.
-fn find(recipe: &[u8], from: Mark, i: usize) -> Found
-    requires { ⌜ (from .nodes ≤ i) × Leads (now recipe) from ⌝ }
-    ensures { λ r. ⌜ Leads (now (recipe .entry)) (r .mark) × (r .ty ≡ getD (nodeTypes pptt (now (recipe .entry))) i 255) ⌝ }
+// Notes node i, if a record of this kind makes a cache: from its bit on all are 0 so far.
+fn note_type(types: &mut [u64], kind: Kind, i: usize)
+    requires { ⌜ (meantKind kind ≡ format.Cache → Clear (now types) i) ⌝ }
+    ensures { λ _. ⌜ now (types .exit) ≡ noted (meantKind kind) i (now (types .entry)) ⌝ }
 {
-    let mut at = from.place;
-    let mut left = i - from.nodes;
-    while at < recipe.len() {
-        let Named::As(kind) = kind_of(Table::Pptt, recipe[at]) else {
-            return Found {
-                mark: from,
-                ty: Kind::NOTHING,
-            };
-        };
-        let ty = kind.makes();
-        let n = kind.body_len();
-        if ty == Kind::NOTHING {
-            at = at + 1 + n;
-        } else {
-            if left == 0 {
-                return Found {
-                    mark: Mark {
-                        nodes: i,
-                        place: at,
-                    },
-                    ty,
-                };
-            }
-            left = left - 1;
-            at = at + 1 + n;
-        }
-    }
-    Found {
-        mark: from,
-        ty: Kind::NOTHING,
-    }
+    let Kind::Cache = kind else {
+        return;
+    };
+    let j = i / 64;
+    types[j] = types[j] + (1 << (i % 64));
 }
 
-// At the parent that a processor names, if it names one.
-fn look_for_processor(recipe: &[u8], marks: Marks, h: ProcessorHandle) -> Looked
-    requires { ⌜ Leading (now recipe) marks ⌝ }
-    ensures { λ r. ⌜ Leading (now (recipe .entry)) (r .marks) × Finds (nodeTypes pptt (now (recipe .entry))) (h .0) (r .ty) ⌝ }
-{
-    if h.0 == 0 {
-        return Looked {
-            marks,
-            ty: Kind::NOTHING,
-        };
-    }
-    let i = h.0 as usize - 1;
-    let found = find(recipe, marks.toward_parent(first(), i), i);
-    Looked {
-        marks: marks.at_parent(found.mark),
-        ty: found.ty,
-    }
-}
-
-// At the cache that a resource or a cache names, if it names one.
-fn look_for_cache(recipe: &[u8], marks: Marks, h: CacheHandle) -> Looked
-    requires { ⌜ Leading (now recipe) marks ⌝ }
-    ensures { λ r. ⌜ Leading (now (recipe .entry)) (r .marks) × Finds (nodeTypes pptt (now (recipe .entry))) (h .0) (r .ty) ⌝ }
-{
-    if h.0 == 0 {
-        return Looked {
-            marks,
-            ty: Kind::NOTHING,
-        };
-    }
-    let i = h.0 as usize - 1;
-    let found = find(recipe, marks.toward_cache(first(), i), i);
-    Looked {
-        marks: marks.at_cache(i, found.mark),
-        ty: found.ty,
-    }
-}
-
-// At the node that a record names.
-fn look_for(recipe: &[u8], marks: Marks, reference: Reference) -> Looked
-    requires { ⌜ Leading (now recipe) marks ⌝ }
-    ensures { λ r. ⌜ Leading (now (recipe .entry)) (r .marks) × Finds (nodeTypes pptt (now (recipe .entry))) (ordinalIn reference) (r .ty) ⌝ }
-{
-    match reference {
-        Reference::Processor(h) => look_for_processor(recipe, marks, h),
-        Reference::Cache(h) => look_for_cache(recipe, marks, h),
-        Reference::Nothing => Looked {
-            marks,
-            ty: Kind::NOTHING,
-        },
-    }
-}
-
-// A handle is none, or names a node below the ordinal own, and a processor was found there.
-fn is_processor_or_none(found: u8, own: usize, h: ProcessorHandle) -> bool
-    ensures { λ r. ⌜ r ≡ pick (eqb (h .0) 0) true (pick (ltb (h .0) own) (eqb found 0) false) ⌝ }
+// A handle is none, or names a processor below the ordinal own.
+fn is_processor_or_none(types: &[u64], own: usize, h: ProcessorHandle) -> bool
+    ensures { λ r. ⌜ r ≡ pick (eqb (h .0) 0) true (names (now (types .entry)) own (h .0) 0) ⌝ }
 {
     if h.0 == 0 {
         return true;
@@ -415,12 +301,12 @@ fn is_processor_or_none(found: u8, own: usize, h: ProcessorHandle) -> bool
     if own <= h.0 as usize {
         return false;
     }
-    found == ProcessorNode::TYPE
+    type_at(types, h.0 as usize - 1) == ProcessorNode::TYPE
 }
 
-// A handle names a node below the ordinal own, and a cache was found there.
-fn is_cache(found: u8, own: usize, h: CacheHandle) -> bool
-    ensures { λ r. ⌜ r ≡ pick (eqb (h .0) 0) false (pick (ltb (h .0) own) (eqb found 1) false) ⌝ }
+// A handle names a cache below the ordinal own.
+fn is_cache(types: &[u64], own: usize, h: CacheHandle) -> bool
+    ensures { λ r. ⌜ r ≡ names (now (types .entry)) own (h .0) 1 ⌝ }
 {
     if h.0 == 0 {
         return false;
@@ -428,35 +314,35 @@ fn is_cache(found: u8, own: usize, h: CacheHandle) -> bool
     if own <= h.0 as usize {
         return false;
     }
-    found == CacheNode::TYPE
+    type_at(types, h.0 as usize - 1) == CacheNode::TYPE
 }
 
-fn is_cache_or_none(found: u8, own: usize, h: CacheHandle) -> bool
-    ensures { λ r. ⌜ r ≡ pick (eqb (h .0) 0) true (pick (ltb (h .0) own) (eqb found 1) false) ⌝ }
+fn is_cache_or_none(types: &[u64], own: usize, h: CacheHandle) -> bool
+    ensures { λ r. ⌜ r ≡ pick (eqb (h .0) 0) true (names (now (types .entry)) own (h .0) 1) ⌝ }
 {
     if h.0 == 0 {
         return true;
     }
-    is_cache(found, own, h)
+    is_cache(types, own, h)
 }
 
 // ---- PPTT
 
-fn processor(found: u8, bytes: &[u8], st: State) -> Step
+fn processor(types: &[u64], bytes: &[u8], st: State) -> Step
     requires { ⌜ Sound st ⌝ }
-    ensures { λ r. ⌜ TurnsFor found format.Processor (now (bytes .entry)) st r ⌝ }
+    ensures { λ r. ⌜ TurnsWith (now (types .entry)) format.Processor (now (bytes .entry)) st r ⌝ }
 {
     let parent = ProcessorNode::parent_in(bytes);
     let own = st.nodes + 1;
-    if !is_processor_or_none(found, own, parent) {
+    if !is_processor_or_none(types, own, parent) {
         return Step::Refused(Refusal::BadRef);
     }
     st.grown(own, ProcessorNode::LEN, Newest::Processor(0))
 }
 
-fn resource(found: u8, bytes: &[u8], st: State) -> Step
+fn resource(types: &[u64], bytes: &[u8], st: State) -> Step
     requires { ⌜ Sound st ⌝ }
-    ensures { λ r. ⌜ TurnsFor found format.Resource (now (bytes .entry)) st r ⌝ }
+    ensures { λ r. ⌜ TurnsWith (now (types .entry)) format.Resource (now (bytes .entry)) st r ⌝ }
 {
     let newest = st.newest;
     let Newest::Processor(n) = newest else {
@@ -464,7 +350,7 @@ fn resource(found: u8, bytes: &[u8], st: State) -> Step
     };
     let own = st.nodes;
     let cache = Resource::from_body(bytes).cache;
-    if !is_cache(found, own, cache) {
+    if !is_cache(types, own, cache) {
         return Step::Refused(Refusal::BadRef);
     }
     if ProcessorNode::MAX_RESOURCES <= n {
@@ -473,9 +359,9 @@ fn resource(found: u8, bytes: &[u8], st: State) -> Step
     st.grown(own, Resource::LEN, Newest::Processor(n + 1))
 }
 
-fn cache(found: u8, bytes: &[u8], st: State) -> Step
+fn cache(types: &[u64], bytes: &[u8], st: State) -> Step
     requires { ⌜ Sound st ⌝ }
-    ensures { λ r. ⌜ TurnsFor found format.Cache (now (bytes .entry)) st r ⌝ }
+    ensures { λ r. ⌜ TurnsWith (now (types .entry)) format.Cache (now (bytes .entry)) st r ⌝ }
 {
     let node = CacheNode::from_body(bytes);
     if node.bad_field() != 0 {
@@ -483,7 +369,7 @@ fn cache(found: u8, bytes: &[u8], st: State) -> Step
     }
     let next_level = node.next_level;
     let own = st.nodes + 1;
-    if !is_cache_or_none(found, own, next_level) {
+    if !is_cache_or_none(types, own, next_level) {
         return Step::Refused(Refusal::BadRef);
     }
     st.grown(own, CacheNode::LEN, Newest::Other)
@@ -561,42 +447,42 @@ fn handle(st: State) -> Step
 
 // ---- the pass
 
-// One record, whose body the bytes begin with; found: the type of the node that it names.
-fn judge(found: u8, kind: Kind, bytes: &[u8], st: State) -> Step
-    requires { ⌜ Sound st ⌝ }
-    ensures { λ r. ⌜ TurnsFor found (meantKind kind) (now (bytes .entry)) st r ⌝ }
+// One record, whose body the bytes begin with: each body is a window of its own length.
+fn judge(types: &[u64], kind: Kind, bytes: &[u8], st: State) -> Step
+    requires { ⌜ Sound st × (width (body (meantKind kind)) ≤ length (now bytes)) ⌝ }
+    ensures { λ r. ⌜ TurnsWith (now (types .entry)) (meantKind kind) (now (bytes .entry)) st r ⌝ }
 {
     match kind {
-        Kind::Processor => processor(found, bytes, st),
-        Kind::Resource => resource(found, bytes, st),
-        Kind::Cache => cache(found, bytes, st),
+        Kind::Processor => processor(types, &bytes[..ProcessorNode::BODY], st),
+        Kind::Resource => resource(types, &bytes[..Resource::BODY], st),
+        Kind::Cache => cache(types, &bytes[..CacheNode::BODY], st),
         Kind::Memory => st.made(
-            MemoryAffinity::from_body(bytes).bad_field(),
+            MemoryAffinity::from_body(&bytes[..MemoryAffinity::BODY]).bad_field(),
             MemoryAffinity::LEN,
             Newest::Other,
         ),
         Kind::Acpi => st.made(
-            GenericInitiator::from_acpi_body(bytes).bad_field(),
+            GenericInitiator::from_acpi_body(&bytes[..GenericInitiator::ACPI_BODY]).bad_field(),
             GenericInitiator::LEN,
             Newest::Other,
         ),
         Kind::Pci => st.made(
-            GenericInitiator::from_pci_body(bytes).bad_field(),
+            GenericInitiator::from_pci_body(&bytes[..GenericInitiator::PCI_BODY]).bad_field(),
             GenericInitiator::LEN,
             Newest::Other,
         ),
         Kind::Rintc => st.made(
-            RintcAffinity::from_body(bytes).bad_field(),
+            RintcAffinity::from_body(&bytes[..RintcAffinity::BODY]).bad_field(),
             RintcAffinity::LEN,
             Newest::Other,
         ),
         Kind::Domain => st.made(0, MemoryProximityDomain::LEN, Newest::Other),
-        Kind::Matrix => matrix(bytes, st),
-        Kind::Initiator => initiator(bytes, st),
-        Kind::Target => target(bytes, st),
-        Kind::Cell => cell(bytes, st),
+        Kind::Matrix => matrix(&bytes[..SystemLocality::BODY], st),
+        Kind::Initiator => initiator(&bytes[..Value::BODY], st),
+        Kind::Target => target(&bytes[..Value::BODY], st),
+        Kind::Cell => cell(&bytes[..Cell::BODY], st),
         Kind::Side => st.made(
-            MemorySideCache::from_body(bytes).bad_field(),
+            MemorySideCache::from_body(&bytes[..MemorySideCache::BODY]).bad_field(),
             MemorySideCache::LEN,
             Newest::Side(0),
         ),
@@ -606,7 +492,7 @@ fn judge(found: u8, kind: Kind, bytes: &[u8], st: State) -> Step
 
 // The place behind the good cells that follow: they leave the state as it is.
 fn past_cells(recipe: &[u8], from: usize, st: State) -> usize
-    ensures { λ r. ⌜ (from ≤ r) × ((h : Head) → Stands (now (recipe .entry)) h from st → Stands (now (recipe .entry)) h r st) ⌝ }
+    ensures { λ r. ⌜ (from ≤ r) × ((h : Head) (ws : List ℕ) → Stands (now (recipe .entry)) h from st ws → Stands (now (recipe .entry)) h r st ws) ⌝ }
 {
     let table = st.table;
     let Table::Hmat = table else {
@@ -623,13 +509,13 @@ fn past_cells(recipe: &[u8], from: usize, st: State) -> usize
     at
 }
 
-// The records behind the head.
-fn walk(recipe: &[u8], table: Table) -> Checked
+// The records behind the head; types: a bit for each node of a PPTT, all 0.
+fn walk(recipe: &[u8], table: Table, types: &mut [u64]) -> Checked
+    requires { ⌜ (meant table ≡ pptt → Typed (now types) []) ⌝ }
     ensures { λ r. ⌜ shown r ≡ outlined (run (headOf (meant table) (part (now (recipe .entry)) 2 26)) 0 [] (cut (meant table) 0 28 (drop 28 (now (recipe .entry))))) ⌝ }
 {
     let mut at = HEAD_LEN;
     let mut st = State::new(table);
-    let mut marks = Marks::new(first());
     while at < recipe.len() {
         let Named::As(kind) = kind_of(table, recipe[at]) else {
             return Checked::Refused(Refusal::BadKind, at);
@@ -640,11 +526,9 @@ fn walk(recipe: &[u8], table: Table) -> Checked
         if bytes.len() < n {
             return Checked::Refused(Refusal::Cut, at);
         }
-        let looked = look_for(recipe, marks, kind.refers(bytes));
-        let next = looked.marks;
-        marks = next;
-        match judge(looked.ty, kind, bytes, st) {
+        match judge(types, kind, bytes, st) {
             Step::Next(more) => {
+                note_type(types, kind, st.nodes);
                 st = more;
                 at = past_cells(recipe, end, more);
             }
@@ -667,9 +551,12 @@ pub fn check(recipe: &[u8]) -> Checked
         return Checked::Refused(Refusal::Cut, 0);
     }
     match field::get_u8(recipe, 1) {
-        Table::PPTT_CODE => walk(recipe, Table::Pptt),
-        Table::SRAT_CODE => walk(recipe, Table::Srat),
-        Table::HMAT_CODE => walk(recipe, Table::Hmat),
+        Table::PPTT_CODE => {
+            let mut types = [0u64; WORDS];
+            walk(recipe, Table::Pptt, &mut types)
+        }
+        Table::SRAT_CODE => walk(recipe, Table::Srat, &mut [0u64; 1]),
+        Table::HMAT_CODE => walk(recipe, Table::Hmat, &mut [0u64; 1]),
         _ => Checked::Refused(Refusal::BadField, 0),
     }
 }

@@ -23,6 +23,7 @@ use Rattle.srat.proofs.MemoryAffinity.put.Reads as MemoryAffinity-put
 use Rattle.srat.proofs.MemoryAffinity.get.Reads as MemoryAffinity-get
 use Rattle.srat.proofs.MemoryAffinity.from_body.Reads as MemoryAffinity-from-body
 use Rattle.srat.proofs.MemoryAffinity.put_body.Reads as MemoryAffinity-put-body
+use Rattle.srat.proofs.MemoryAffinity.put_fields.Reads as MemoryAffinity-put-fields
 use Rattle.srat.proofs.MemoryAffinity.bad_field.Reads as MemoryAffinity-bad-field
 use Rattle.srat.proofs.MemoryAffinity.is_sound.Reads as MemoryAffinity-is-sound
 use Rattle.srat.proofs.Handle.new_acpi.Reads as Handle-new-acpi
@@ -36,6 +37,8 @@ use Rattle.srat.proofs.GenericInitiator.get.Reads as GenericInitiator-g
 use Rattle.srat.proofs.GenericInitiator.from_acpi_body.Reads as GenericInitiator-from-acpi-body
 use Rattle.srat.proofs.GenericInitiator.from_pci_body.Reads as GenericInitiator-from-pci-body
 use Rattle.srat.proofs.GenericInitiator.put_body.Reads as GenericInitiator-put-body
+use Rattle.srat.proofs.GenericInitiator.fields_count.Reads as GenericInitiator-fields-count
+use Rattle.srat.proofs.GenericInitiator.put_fields.Reads as GenericInitiator-put-fields
 use Rattle.srat.proofs.GenericInitiator.bad_field.Reads as GenericInitiator-bad-field
 use Rattle.srat.proofs.GenericInitiator.is_sound.Reads as GenericInitiator-is-sound
 use Rattle.srat.proofs.RintcAffinity.new.Reads as RintcAffinity-new
@@ -45,6 +48,7 @@ use Rattle.srat.proofs.RintcAffinity.put.Reads as RintcAffinity-put
 use Rattle.srat.proofs.RintcAffinity.get.Reads as RintcAffinity-get
 use Rattle.srat.proofs.RintcAffinity.from_body.Reads as RintcAffinity-from-body
 use Rattle.srat.proofs.RintcAffinity.put_body.Reads as RintcAffinity-put-body
+use Rattle.srat.proofs.RintcAffinity.put_fields.Reads as RintcAffinity-put-fields
 use Rattle.srat.proofs.RintcAffinity.bad_field.Reads as RintcAffinity-bad-field
 use Rattle.srat.proofs.RintcAffinity.is_sound.Reads as RintcAffinity-is-sound
 
@@ -90,6 +94,7 @@ pub record Unique : Type 0 where
   MemoryAffinity-get : Fixes MemoryAffinity-get.Learnt (λ k x p. x)
   MemoryAffinity-from-body : Fixes MemoryAffinity-from-body.Learnt (λ k x p. x)
   MemoryAffinity-put-body : Fixes {S = ℕ × List ℕ} MemoryAffinity-put-body.Learnt (λ k x p. (x, p .1 .0 .now))
+  MemoryAffinity-put-fields : Fixes MemoryAffinity-put-fields.Learnt (λ k x p. p .1 .0 .now)
   MemoryAffinity-bad-field : Fixes MemoryAffinity-bad-field.Learnt (λ k x p. x)
   MemoryAffinity-is-sound : Fixes MemoryAffinity-is-sound.Learnt (λ k x p. x)
   Handle-new-acpi : Fixes Handle-new-acpi.Learnt (λ k x p. x)
@@ -103,6 +108,8 @@ pub record Unique : Type 0 where
   GenericInitiator-from-acpi-body : Fixes GenericInitiator-from-acpi-body.Learnt (λ k x p. x)
   GenericInitiator-from-pci-body : Fixes GenericInitiator-from-pci-body.Learnt (λ k x p. x)
   GenericInitiator-put-body : Fixes {S = ℕ × List ℕ} GenericInitiator-put-body.Learnt (λ k x p. (x, p .1 .0 .now))
+  GenericInitiator-fields-count : Fixes GenericInitiator-fields-count.Learnt (λ k x p. x)
+  GenericInitiator-put-fields : Fixes GenericInitiator-put-fields.Learnt (λ k x p. p .1 .0 .now)
   GenericInitiator-bad-field : Fixes GenericInitiator-bad-field.Learnt (λ k x p. x)
   GenericInitiator-is-sound : Fixes GenericInitiator-is-sound.Learnt (λ k x p. x)
   RintcAffinity-new : Fixes RintcAffinity-new.Learnt (λ k x p. x)
@@ -112,6 +119,7 @@ pub record Unique : Type 0 where
   RintcAffinity-get : Fixes RintcAffinity-get.Learnt (λ k x p. x)
   RintcAffinity-from-body : Fixes RintcAffinity-from-body.Learnt (λ k x p. x)
   RintcAffinity-put-body : Fixes {S = ℕ × List ℕ} RintcAffinity-put-body.Learnt (λ k x p. (x, p .1 .0 .now))
+  RintcAffinity-put-fields : Fixes RintcAffinity-put-fields.Learnt (λ k x p. p .1 .0 .now)
   RintcAffinity-bad-field : Fixes RintcAffinity-bad-field.Learnt (λ k x p. x)
   RintcAffinity-is-sound : Fixes RintcAffinity-is-sound.Learnt (λ k x p. x)
 
@@ -127,6 +135,7 @@ unique =
       MemoryAffinity-get = λ k a x y p q. one-memory x y _;
       MemoryAffinity-from-body = λ k a x y p q. one-memory x y _;
       MemoryAffinity-put-body = λ k a x y p q l m. sole-pair (sole (l .1) (m .1)) (sole (l .0) (m .0));
+      MemoryAffinity-put-fields = λ k a x y p q. sole;
       MemoryAffinity-bad-field = λ k a x y p q. sole;
       MemoryAffinity-is-sound = λ k a x y p q. sole;
       Handle-new-acpi = λ k a x y p q. sole;
@@ -140,6 +149,8 @@ unique =
       GenericInitiator-from-acpi-body = λ k a x y p q. one-initiator x y _;
       GenericInitiator-from-pci-body = λ k a x y p q. one-initiator x y _;
       GenericInitiator-put-body = λ k a x y p q l m. sole-pair (sole (l .1) (m .1)) (sole (l .0) (m .0));
+      GenericInitiator-fields-count = λ k a x y p q. sole;
+      GenericInitiator-put-fields = λ k a x y p q. sole;
       GenericInitiator-bad-field = λ k a x y p q. sole;
       GenericInitiator-is-sound = λ k a x y p q. sole;
       RintcAffinity-new = λ k a x y p q. sole;
@@ -149,6 +160,7 @@ unique =
       RintcAffinity-get = λ k a x y p q. one-rintc x y _;
       RintcAffinity-from-body = λ k a x y p q. one-rintc x y _;
       RintcAffinity-put-body = λ k a x y p q l m. sole-pair (sole (l .1) (m .1)) (sole (l .0) (m .0));
+      RintcAffinity-put-fields = λ k a x y p q. sole;
       RintcAffinity-bad-field = λ k a x y p q. sole;
       RintcAffinity-is-sound = λ k a x y p q. sole;
     }

@@ -13,7 +13,7 @@ ghost use Rattle.format.specs.Kind.{Memory, Acpi, Pci, Rintc, body};
 ghost use Rattle.format.specs.Field.{callsOfNode, badField};
 ghost use Rattle.format.specs.Row.{initiators, formIn};
 ghost use Rattle.format.specs.Read.{sound};
-ghost use Rattle.srat.specs.Srat.{handleFixed, memoryNode, initiatorNode, rintcNode, memoryOf, memoryWith, initiatorOf, initiatorWith, rintcOf, rintcWith};
+ghost use Rattle.srat.specs.Srat.{handleFixed, memoryNode, initiatorNode, rintcNode, memoryShown, initiatorShown, rintcShown, memoryOf, memoryWith, initiatorOf, initiatorWith, rintcOf, rintcWith};
 
 pub struct MemoryAffinity {
     pub proximity_domain: u32,
@@ -31,6 +31,9 @@ impl MemoryAffinity {
     pub const TYPE: u8 = 1;
 
     pub const LEN: usize = 40;
+
+    // How many values a reading call shows.
+    pub const FIELDS: usize = 4;
 
     pub const ENABLED: u32 = 1;
 
@@ -165,6 +168,19 @@ impl MemoryAffinity {
         1 + Self::BODY
     }
 
+    // Writes the values that a reading call shows, in their order.
+    pub fn put_fields(self, answer: &mut [u64], at: usize)
+        ensures { λ _. ⌜ now (answer .exit) ≡ over (now (answer .entry)) at (memoryShown self) ⌝ }
+    {
+        let vs = [
+            self.proximity_domain as u64,
+            self.base_address,
+            self.length,
+            self.flags as u64,
+        ];
+        field::copy_u64(answer, at, &vs);
+    }
+
     // The place of the first field outside its range, counted from the kind byte; 0 for none.
     pub fn bad_field(self) -> usize
         ensures { λ r. ⌜ r ≡ badField (memoryNode self) ⌝ }
@@ -276,6 +292,11 @@ impl GenericInitiator {
     pub const TYPE: u8 = 5;
 
     pub const LEN: usize = 32;
+
+    // How many values a reading call shows, by handle.
+    const ACPI_FIELDS: usize = 5;
+
+    const PCI_FIELDS: usize = 7;
 
     pub const ENABLED: u32 = 1;
 
@@ -527,6 +548,54 @@ impl GenericInitiator {
         }
     }
 
+    // How many values a reading call shows.
+    pub fn fields_count(self) -> usize
+        ensures { λ r. ⌜ r ≡ length (initiatorShown self) ⌝ }
+    {
+        let handle = self.handle;
+        match handle {
+            Handle::Acpi { hid: _, uid: _ } => Self::ACPI_FIELDS,
+            Handle::Pci {
+                segment: _,
+                bus: _,
+                device: _,
+                function: _,
+            } => Self::PCI_FIELDS,
+        }
+    }
+
+    // Writes the values that a reading call shows, in their order.
+    pub fn put_fields(self, answer: &mut [u64], at: usize)
+        ensures { λ _. ⌜ now (answer .exit) ≡ over (now (answer .entry)) at (initiatorShown self) ⌝ }
+    {
+        let domain = self.proximity_domain as u64;
+        let flags = self.flags as u64;
+        let handle = self.handle;
+        match handle {
+            Handle::Acpi { hid, uid } => {
+                let vs = [Handle::ACPI as u64, domain, hid, uid as u64, flags];
+                field::copy_u64(answer, at, &vs);
+            }
+            Handle::Pci {
+                segment,
+                bus,
+                device,
+                function,
+            } => {
+                let vs = [
+                    Handle::PCI as u64,
+                    domain,
+                    segment as u64,
+                    bus as u64,
+                    device as u64,
+                    function as u64,
+                    flags,
+                ];
+                field::copy_u64(answer, at, &vs);
+            }
+        }
+    }
+
     fn bad_acpi(flags: u32) -> usize
         ensures { λ r. ⌜ r ≡ pick (leb flags 3) 0 17 ⌝ }
     {
@@ -594,6 +663,9 @@ impl RintcAffinity {
     pub const TYPE: u8 = 7;
 
     pub const LEN: usize = 16;
+
+    // How many values a reading call shows.
+    pub const FIELDS: usize = 3;
 
     pub const ENABLED: u32 = 1;
 
@@ -695,6 +767,18 @@ impl RintcAffinity {
         ];
         field::put_all(out, at, &Self::BODY_WIDTHS, &vs);
         1 + Self::BODY
+    }
+
+    // Writes the values that a reading call shows, in their order.
+    pub fn put_fields(self, answer: &mut [u64], at: usize)
+        ensures { λ _. ⌜ now (answer .exit) ≡ over (now (answer .entry)) at (rintcShown self) ⌝ }
+    {
+        let vs = [
+            self.acpi_processor_uid as u64,
+            self.flags as u64,
+            self.clock_domain as u64,
+        ];
+        field::copy_u64(answer, at, &vs);
     }
 
     // The place of the first field outside its range, counted from the kind byte; 0 for none.

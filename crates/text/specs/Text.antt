@@ -4,15 +4,11 @@ use mathlib.Core.List.{List, [], _∷_, _++_}
 use lib.Dec.{ltb}
 use lib.ListN.{length}
 use Rattle.format.specs.Bytes.{pick, over}
-use Rattle.format.specs.Listing.{digits, spaced}
+use Rattle.format.specs.Listing.{digits}
 
 -- s laid behind the n bytes that a buffer is filled with: how far it is filled then, and the buffer
 unfoldable pub laid : List ℕ → ℕ → List ℕ → ℕ × List ℕ
 laid out n s = (min (length out) (n + length s), over out n s)
-
--- "refused", number and place
-unfoldable pub refusedWords : ℕ → ℕ → List ℕ
-refusedWords number place = 114 ∷ 101 ∷ 102 ∷ 117 ∷ 115 ∷ 101 ∷ 100 ∷ (spaced number ++ spaced place)
 
 -- the hexadecimal digit of a number's low four bits, lower case: '0' is 48, 'a' is 97
 unfoldable pub glyph : ℕ → ℕ

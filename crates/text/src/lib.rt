@@ -3,8 +3,8 @@
 ghost use mathlib.Core.Path.{_≡_};
 ghost use mathlib.Core.List.{[], _∷_};
 ghost use Prim.Native.Nat.{_/_};
-ghost use Rattle.format.specs.Listing.{digits, spaced};
-ghost use Rattle.text.specs.Text.{laid, refusedWords, glyph, pairs, hexed, others, listed};
+ghost use Rattle.format.specs.Listing.{digits, spaced, refusedWords};
+ghost use Rattle.text.specs.Text.{laid, glyph, pairs, hexed, others, listed};
 
 // One byte.
 pub fn byte(out: &mut [u8], n: usize, b: u8) -> usize

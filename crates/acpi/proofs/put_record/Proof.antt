@@ -8,7 +8,7 @@ returns : tie.Need-returns
 returns c =
     let f = c .before .before in
     let k = f .before .before .before .before in
-    record-laid _ _ _ _ _ _ _ _ _ _ _ (k .before .before .before .row-number .ensures) (k .copy .ensures) (f .put-fields .ensures)
+    record-laid _ _ _ _ _ _ _ _ _ _ _ (k .before .before .before .row-number .ensures) (k .copy-u64 .ensures) (f .put-fields .ensures)
 
 pub put-record-spec : {M : Type 1} → statement M
 put-record-spec =

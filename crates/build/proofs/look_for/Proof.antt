@@ -8,10 +8,10 @@ look-for-spec =
     tie.close
     (tie.spec
     (λ c. search needs)
-    (λ c κs. rw (c .before .reference .given .1) at (c .before .before .before .before .pre))
+    (λ c κs. rw (c .before .reference .given .1) at (c .before .before .before .before .before .pre))
     (λ c. search needs)
-    (λ c κs. rw (c .before .reference2 .given .1) at (c .before .before .before .before .pre))
+    (λ c κs. rw (c .before .reference2 .given .1) at (c .before .before .before .before .before .pre))
     (λ c. search needs)
-    (λ c. rw (c .before .before .reference .given .1) (c .processor-at .ensures))
-    (λ c. rw (c .before .before .reference2 .given .1) (c .cache-at .ensures))
-    (λ c. rw (c .enum-told .given .1) (tt, λ es f p q b. (p, q, b))))
+    (λ c. rw (c .before .before .reference .given .1) (c .place-of .ensures))
+    (λ c. rw (c .before .before .reference2 .given .1) (c .place-of2 .ensures))
+    (λ c. rw (c .enum-told .given .1) tt))

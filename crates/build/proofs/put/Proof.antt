@@ -1,25 +1,119 @@
--- `put` meets its contract: kind by kind, what the called function writes is the record of the format.
-use mathlib.Core.Path.{ap, _∙_}
+-- `put` meets its contract: kind by kind, what the called function writes of a window of the body is the record of the format.
+use mathlib.Core.Path.{_≡_, ap, _∙_}
 use Prim.Native.Nat.{ℕ}
 use mathlib.Core.List.{List}
+use native.Mathlib.Omega.{arith}
 use borrow.Author.Needs.{needs}
-use Rattle.format.specs.Bytes.{at}
-use Rattle.format.specs.Form.{memory, acpi, pci, rintc, domain, layout}
+use Rattle.format.specs.Bytes.{at, le, over}
+use Rattle.format.specs.Form.{processor, cache, memory, acpi, pci, rintc, domain, side, layout}
+use Rattle.format.specs.Layout.{width, fields}
+use Rattle.format.specs.Kind.{Processor, Cache, Memory, Acpi, Pci, Rintc, Domain, Initiator, Side, Handle, body}
+use Rattle.recipe.specs.Kinds.{meantKind}
 use Rattle.pptt.specs.Processor as pptt
 use Rattle.hmat.specs.Hmat as hmat
-use Rattle.build.specs.Write.{wrote}
+use Rattle.build.specs.declared.Change.{Change}
+use Rattle.build.specs.Write.{wrote, changeOf}
 use Rattle.build.proofs.Plains.{plain-appended, processor-appended, cache-appended, matrix-appended, side-appended}
+use Rattle.laws.proofs.Fields.{body-window}
+use Rattle.build.proofs.Windows.{node-window, window-long}
 use Rattle.build.proofs.put.Statement.{statement}
 use Rattle.build.proofs.put.Tie as tie
 
+-- ---- the windows are in the body
+
+slice-aggregate-from-body : tie.Need-slice-aggregate-from-body
+unfolding width body
+slice-aggregate-from-body c =
+    let t = c .before in
+    let b = t .before .before .before .before .before in
+    window-long (meantKind (b .args .kind)) Processor (b .args .bytes .now) 12 (ap meantKind (t .enum-told .given .1)) (omega arith) (b .pre .2)
+
+slice-aggregate-from-body-2 : tie.Need-slice-aggregate-from-body-2
+unfolding width body
+slice-aggregate-from-body-2 c =
+    let t = c .before in
+    let b = t .before .before .before .before .before in
+    window-long (meantKind (b .args .kind)) Cache (b .args .bytes .now) 21 (ap meantKind (t .enum-told3 .given .1)) (omega arith) (b .pre .2)
+
+slice-aggregate-from-body-3 : tie.Need-slice-aggregate-from-body-3
+unfolding width body
+slice-aggregate-from-body-3 c =
+    let t = c .before in
+    let b = t .before .before .before .before .before in
+    window-long (meantKind (b .args .kind)) Memory (b .args .bytes .now) 21 (ap meantKind (t .enum-told4 .given .1)) (omega arith) (b .pre .2)
+
+slice-aggregate-from-acpi-body : tie.Need-slice-aggregate-from-acpi-body
+unfolding width body
+slice-aggregate-from-acpi-body c =
+    let t = c .before in
+    let b = t .before .before .before .before .before in
+    window-long (meantKind (b .args .kind)) Acpi (b .args .bytes .now) 17 (ap meantKind (t .enum-told5 .given .1)) (omega arith) (b .pre .2)
+
+slice-aggregate-from-pci-body : tie.Need-slice-aggregate-from-pci-body
+unfolding width body
+slice-aggregate-from-pci-body c =
+    let t = c .before in
+    let b = t .before .before .before .before .before in
+    window-long (meantKind (b .args .kind)) Pci (b .args .bytes .now) 10 (ap meantKind (t .enum-told6 .given .1)) (omega arith) (b .pre .2)
+
+slice-aggregate-from-body-4 : tie.Need-slice-aggregate-from-body-4
+unfolding width body
+slice-aggregate-from-body-4 c =
+    let t = c .before in
+    let b = t .before .before .before .before .before in
+    window-long (meantKind (b .args .kind)) Rintc (b .args .bytes .now) 9 (ap meantKind (t .enum-told7 .given .1)) (omega arith) (b .pre .2)
+
+slice-aggregate-from-body-5 : tie.Need-slice-aggregate-from-body-5
+unfolding width body
+slice-aggregate-from-body-5 c =
+    let t = c .before in
+    let b = t .before .before .before .before .before in
+    window-long (meantKind (b .args .kind)) Domain (b .args .bytes .now) 8 (ap meantKind (t .enum-told8 .given .1)) (omega arith) (b .pre .2)
+
+slice-aggregate-from-body-6 : tie.Need-slice-aggregate-from-body-6
+unfolding width body
+slice-aggregate-from-body-6 c =
+    let t = c .before in
+    let b = t .before .before .before .before .before in
+    window-long (meantKind (b .args .kind)) Side (b .args .bytes .now) 16 (ap meantKind (t .enum-told13 .given .1)) (omega arith) (b .pre .2)
+
+slice-aggregate-from-body-7 : tie.Need-slice-aggregate-from-body-7
+unfolding width body
+slice-aggregate-from-body-7 c =
+    let t = c .before .before .before in
+    let b = t .before .before .before .before .before in
+    window-long (meantKind (b .args .kind)) Handle (b .args .bytes .now) 2 (ap meantKind (t .enum-told14 .given .1)) (omega arith) (b .pre .2)
+
+-- ---- a value is in the buffer
+
+set-value-requires : tie.Need-set-value-requires
+unfolding changeOf width body
+set-value-requires c κs =
+    let k = c .before .enum-told10 .given .1 in
+    let b = c .before .before .before .before .before .before in
+    let l : b .args .change .len ≡ 4 = ap (λ (x : Change). x .len) (rw k at (b .pre .3)) in
+    (rw k at (b .pre .2), omega (arith, b .pre .4))
+
+set-value-requires-2 : tie.Need-set-value-requires-2
+unfolding changeOf width body
+set-value-requires-2 c κs =
+    let k = c .before .enum-told11 .given .1 in
+    let b = c .before .before .before .before .before .before in
+    let l : b .args .change .len ≡ 4 = ap (λ (x : Change). x .len) (rw k at (b .pre .3)) in
+    (rw k at (b .pre .2), omega (arith, b .pre .4))
+
+-- ---- what is written
+
 returns : tie.Need-returns
-unfolding wrote
+unfolding wrote width body
 returns c =
     let d = c .before .before in
     let n = d .before .before in
-    let t = n .before .before in
+    let t = n .before .before .before in
     let k = t .enum-told .given .1 in
-    rw k (d .put .ensures ∙ processor-appended _ _ _ _ _ _ (n .before .from-body .ensures) (n .named .ensures) (rw k at (t .before .before .before .before .before .pre .1)))
+    let b = t .before .before .before .before .before in
+    let e = node-window Processor (processor 0) (b .args .bytes .now) 12 _ (omega arith) (n .before .from-body .ensures) in
+    rw k (d .put .ensures ∙ processor-appended _ _ _ _ _ _ e (n .named .ensures) (rw k at (b .pre .1)))
 
 returns-2 : tie.Need-returns-2
 unfolding wrote
@@ -32,48 +126,60 @@ returns-2 c =
     rw k (d .add-cache .ensures ∙ ap (λ (v : ℕ). pptt.grown (a .out .now) (a .s .latest .place) (a .s .latest .count) (record { 0 = v })) (rw k at (b .pre .1)))
 
 returns-3 : tie.Need-returns-3
-unfolding wrote
+unfolding wrote width body
 returns-3 c =
     let d = c .before .before in
     let n = d .before .before in
-    let t = n .before .before in
+    let t = n .before .before .before in
     let k = t .enum-told3 .given .1 in
-    rw k (d .put2 .ensures ∙ cache-appended _ _ _ _ _ _ (n .before .from-body2 .ensures) (n .named2 .ensures) (rw k at (t .before .before .before .before .before .pre .1)))
+    let b = t .before .before .before .before .before in
+    let e = node-window Cache cache (b .args .bytes .now) 21 _ (omega arith) (n .before .from-body2 .ensures) in
+    rw k (d .put2 .ensures ∙ cache-appended _ _ _ _ _ _ e (n .named2 .ensures) (rw k at (b .pre .1)))
 
 returns-4 : tie.Need-returns-4
-unfolding wrote layout
+unfolding wrote layout width body
 returns-4 c =
     let d = c .before .before in
     let e = d .before .before in
-    rw (e .before .enum-told4 .given .1) (d .put3 .ensures ∙ plain-appended memory _ _ _ _ (e .from-body3 .ensures) tt)
+    let t = e .before .before in
+    let bs = t .before .before .before .before .before .args .bytes .now in
+    rw (t .enum-told4 .given .1) (d .put3 .ensures ∙ plain-appended memory _ _ _ _ (node-window Memory memory bs 21 _ (omega arith) (e .from-body3 .ensures)) tt)
 
 returns-5 : tie.Need-returns-5
-unfolding wrote layout
+unfolding wrote layout width body
 returns-5 c =
     let d = c .before .before in
     let e = d .before .before in
-    rw (e .before .enum-told5 .given .1) (d .put4 .ensures ∙ plain-appended acpi _ _ _ _ (e .from-acpi-body .ensures) tt)
+    let t = e .before .before in
+    let bs = t .before .before .before .before .before .args .bytes .now in
+    rw (t .enum-told5 .given .1) (d .put4 .ensures ∙ plain-appended acpi _ _ _ _ (node-window Acpi acpi bs 17 _ (omega arith) (e .from-acpi-body .ensures)) tt)
 
 returns-6 : tie.Need-returns-6
-unfolding wrote layout
+unfolding wrote layout width body
 returns-6 c =
     let d = c .before .before in
     let e = d .before .before in
-    rw (e .before .enum-told6 .given .1) (d .put5 .ensures ∙ plain-appended pci _ _ _ _ (e .from-pci-body .ensures) tt)
+    let t = e .before .before in
+    let bs = t .before .before .before .before .before .args .bytes .now in
+    rw (t .enum-told6 .given .1) (d .put5 .ensures ∙ plain-appended pci _ _ _ _ (node-window Pci pci bs 10 _ (omega arith) (e .from-pci-body .ensures)) tt)
 
 returns-7 : tie.Need-returns-7
-unfolding wrote layout
+unfolding wrote layout width body
 returns-7 c =
     let d = c .before .before in
     let e = d .before .before in
-    rw (e .before .enum-told7 .given .1) (d .put6 .ensures ∙ plain-appended rintc _ _ _ _ (e .from-body4 .ensures) tt)
+    let t = e .before .before in
+    let bs = t .before .before .before .before .before .args .bytes .now in
+    rw (t .enum-told7 .given .1) (d .put6 .ensures ∙ plain-appended rintc _ _ _ _ (node-window Rintc rintc bs 9 _ (omega arith) (e .from-body4 .ensures)) tt)
 
 returns-8 : tie.Need-returns-8
-unfolding wrote layout
+unfolding wrote layout width body
 returns-8 c =
     let d = c .before .before in
     let e = d .before .before in
-    rw (e .before .enum-told8 .given .1) (d .put7 .ensures ∙ plain-appended domain _ _ _ _ (e .from-body5 .ensures) tt)
+    let t = e .before .before in
+    let bs = t .before .before .before .before .before .args .bytes .now in
+    rw (t .enum-told8 .given .1) (d .put7 .ensures ∙ plain-appended domain _ _ _ _ (node-window Domain domain bs 8 _ (omega arith) (e .from-body5 .ensures)) tt)
 
 returns-9 : tie.Need-returns-9
 unfolding wrote
@@ -83,75 +189,99 @@ returns-9 c =
     rw (e .before .enum-told9 .given .1) (d .put8 .ensures ∙ matrix-appended _ _ _ _ (e .from-body6 .ensures))
 
 returns-10 : tie.Need-returns-10
-unfolding wrote
-returns-10 c = rw (c .before .before .before .before .enum-told10 .given .1) (c .before .before .set-initiator .ensures)
+unfolding wrote changeOf body
+returns-10 c =
+    let d = c .before .before in
+    let t = d .before .before in
+    let k = t .enum-told10 .given .1 in
+    let b = t .before .before .before .before .before in
+    let v = at (fields (body Initiator) (b .args .bytes .now)) 1 in
+    rw k (d .set-value .ensures ∙ ap (λ (x : Change). over (b .args .out .now) (x .from) (le 4 v)) (rw k at (b .pre .3)))
 
 returns-11 : tie.Need-returns-11
-unfolding wrote
-returns-11 c = rw (c .before .before .before .before .enum-told11 .given .1) (c .before .before .set-target .ensures)
+unfolding wrote changeOf body
+returns-11 c =
+    let d = c .before .before in
+    let t = d .before .before in
+    let k = t .enum-told11 .given .1 in
+    let b = t .before .before .before .before .before in
+    let v = at (fields (body Initiator) (b .args .bytes .now)) 1 in
+    rw k (d .set-value2 .ensures ∙ ap (λ (x : Change). over (b .args .out .now) (x .from) (le 4 v)) (rw k at (b .pre .3)))
 
 returns-12 : tie.Need-returns-12
 unfolding wrote
 returns-12 c = rw (c .before .before .before .before .enum-told12 .given .1) (c .before .before .set-cell .ensures)
 
 returns-13 : tie.Need-returns-13
-unfolding wrote
+unfolding wrote width body
 returns-13 c =
     let d = c .before .before in
     let e = d .before .before in
-    rw (e .before .enum-told13 .given .1) (d .put9 .ensures ∙ side-appended _ _ _ _ (e .from-body7 .ensures))
+    let t = e .before .before in
+    let bs = t .before .before .before .before .before .args .bytes .now in
+    rw (t .enum-told13 .given .1) (d .put9 .ensures ∙ side-appended _ _ _ _ (node-window Side (side 0) bs 16 _ (omega arith) (e .from-body7 .ensures)))
 
 returns-14 : tie.Need-returns-14
-unfolding wrote
+unfolding wrote width body
 returns-14 c =
     let d = c .before .before in
-    let t = d .before .before .before .before in
+    let t = d .before .before .before .before .before in
     let a = t .before .before .before .before .before .args in
-    rw (t .enum-told14 .given .1) (d .grow .ensures ∙ ap (λ (vs : List ℕ). hmat.grown (a .out .now) (a .s .latest .place) (a .s .latest .count) (at vs 0)) (d .before .from-body8 .ensures))
+    let e = d .before .from-body8 .ensures ∙ body-window Handle (a .bytes .now) 2 (omega arith) in
+    rw (t .enum-told14 .given .1) (d .grow .ensures ∙ ap (λ (vs : List ℕ). hmat.grown (a .out .now) (a .s .latest .place) (a .s .latest .count) (at vs 0)) e)
 
 pub put-spec : {M : Type 1} → statement M
 put-spec =
     tie.close
     (tie.spec
     (λ c. search needs)
+    slice-aggregate-from-body
     (λ c κs. search needs)
     (λ c κs. search needs)
     (λ c κs. search needs)
     (λ c. search needs)
     (λ c κs. search needs)
     (λ c. search needs)
+    slice-aggregate-from-body-2
     (λ c κs. search needs)
+    (λ c κs. search needs)
+    (λ c κs. search needs)
+    (λ c. search needs)
+    slice-aggregate-from-body-3
+    (λ c κs. search needs)
+    (λ c κs. search needs)
+    (λ c. search needs)
+    slice-aggregate-from-acpi-body
+    (λ c κs. search needs)
+    (λ c κs. search needs)
+    (λ c. search needs)
+    slice-aggregate-from-pci-body
+    (λ c κs. search needs)
+    (λ c κs. search needs)
+    (λ c. search needs)
+    slice-aggregate-from-body-4
+    (λ c κs. search needs)
+    (λ c κs. search needs)
+    (λ c. search needs)
+    slice-aggregate-from-body-5
     (λ c κs. search needs)
     (λ c κs. search needs)
     (λ c. search needs)
     (λ c κs. search needs)
     (λ c κs. search needs)
     (λ c. search needs)
-    (λ c κs. search needs)
-    (λ c κs. search needs)
+    set-value-requires
     (λ c. search needs)
-    (λ c κs. search needs)
-    (λ c κs. search needs)
-    (λ c. search needs)
-    (λ c κs. search needs)
-    (λ c κs. search needs)
-    (λ c. search needs)
-    (λ c κs. search needs)
-    (λ c κs. search needs)
-    (λ c. search needs)
-    (λ c κs. search needs)
-    (λ c κs. search needs)
+    set-value-requires-2
     (λ c. search needs)
     (λ c κs. search needs)
     (λ c. search needs)
-    (λ c κs. search needs)
-    (λ c. search needs)
-    (λ c κs. search needs)
-    (λ c. search needs)
+    slice-aggregate-from-body-6
     (λ c κs. search needs)
     (λ c κs. search needs)
     (λ c. search needs)
     (λ c. search needs)
+    slice-aggregate-from-body-7
     (λ c κs. search needs)
     (λ c κs. search needs)
     (λ c. search needs)

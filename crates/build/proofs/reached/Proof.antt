@@ -1,6 +1,6 @@
 -- `reached` meets its contract: so many hops lead to the place that is reached.
-use mathlib.Core.Path.{_≡_, sym, _∙_}
-use Prim.Native.Nat.{_+_, _-_, _*_, _≤_}
+use mathlib.Core.Path.{_≡_, sym, ap, _∙_}
+use Prim.Native.Nat.{ℕ, _+_, _-_, _*_, _%_, _≤_}
 use native.Mathlib.Omega.{arith}
 use borrow.Author.Needs.{needs}
 use Rattle.format.specs.Table.{limit}
@@ -17,19 +17,19 @@ abbrev μ-loop : tie.MeasureT-loop
 μ-loop out i place₀ nodes₀ place nodes = i - nodes
 
 loop-holds : tie.Need-loop-holds Inv-loop μ-loop
-loop-holds c = let b = c .before in (b .pre .0, omega (arith, b .pre .2 .0), b .pre .2 .1)
+loop-holds c = let b = c .before .before in (b .pre .0, omega (arith, b .pre .1 .0), b .pre .1 .1)
 
 loop-again : tie.Need-loop-again Inv-loop μ-loop
 loop-again c =
     let l = c .before .before .loop in
-    let out = c .before .before .before .before .args .out .now in
+    let out = c .before .before .before .before .before .args .out .now in
     (search needs, search needs, walk-turn out (l .nodes) 36 (l .place) (c .get-u8 .result) (l .inv .2) (c .get-u8 .ensures ∙ sym (value-byte out (l .place + 1))))
 
 returns : tie.Need-returns Inv-loop μ-loop
 returns c =
     let l = c .before .loop in
-    let z : l .nodes ≡ c .before .before .before .args .i = omega (arith, l .inv .0, c .loop-test .left) in
-    rw (rw z at (l .inv .2))
+    let z : l .nodes ≡ c .before .before .before .before .args .i = omega (arith, l .inv .0, c .loop-test .left) in
+    ap (λ (n : ℕ). n % 4294967296) (sym (rw z at (l .inv .2)))
 
 pub reached-spec : {M : Type 1} → statement M
 reached-spec =
@@ -37,6 +37,7 @@ reached-spec =
     (tie.spec
     Inv-loop
     μ-loop
+    (λ c. search needs)
     loop-holds
     (λ c. search needs)
     (λ c κs. search needs)
@@ -45,4 +46,5 @@ reached-spec =
     (λ c. search needs)
     (λ c. search needs)
     loop-again
+    (λ c. search needs)
     returns)

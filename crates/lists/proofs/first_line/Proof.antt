@@ -1,9 +1,9 @@
 -- `lists::first_line` meets its contract: its five pieces, each behind the one before.
 use mathlib.Core.Path.{_∙_}
 use borrow.Author.Needs.{needs}
+use Rattle.format.specs.Listing.{firstLine}
 use Rattle.laws.proofs.Bytes.{value-byte}
 use Rattle.text.proofs.Laws.{laid-behind}
-use Rattle.lists.specs.Lines.{firstLine}
 use Rattle.lists.proofs.first_line.Statement.{statement}
 use Rattle.lists.proofs.first_line.Tie as tie
 

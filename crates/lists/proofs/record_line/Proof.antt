@@ -1,8 +1,8 @@
 -- `lists::record_line` meets its contract: its four pieces, each behind the one before.
 use mathlib.Core.Path.{_∙_}
 use borrow.Author.Needs.{needs}
+use Rattle.format.specs.Listing.{recordLine}
 use Rattle.text.proofs.Laws.{laid-behind}
-use Rattle.lists.specs.Lines.{recordLine}
 use Rattle.lists.proofs.record_line.Statement.{statement}
 use Rattle.lists.proofs.record_line.Tie as tie
 

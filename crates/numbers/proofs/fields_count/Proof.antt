@@ -4,7 +4,7 @@ use Rattle.numbers.proofs.fields_count.Statement.{statement}
 use Rattle.numbers.proofs.fields_count.Tie as tie
 
 returns-4 : tie.Need-returns-4
-returns-4 c = rw (c .before .before .node .given .1) (c .initiator-count .ensures)
+returns-4 c = rw (c .before .before .node .given .1) (c .fields-count .ensures)
 
 pub fields-count-spec : {M : Type 1} → statement M
 fields-count-spec =

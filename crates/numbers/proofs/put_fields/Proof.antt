@@ -8,28 +8,28 @@ use Rattle.numbers.proofs.put_fields.Statement.{statement}
 use Rattle.numbers.proofs.put_fields.Tie as tie
 
 returns : tie.Need-returns
-returns c = rw (c .before .before .before .before .before .node .given .1) (c .before .before .put-processor .ensures)
+returns c = rw (c .before .before .before .before .before .node .given .1) (c .before .before .put-fields .ensures)
 
 returns-2 : tie.Need-returns-2
-returns-2 c = rw (c .before .before .before .before .before .node2 .given .1) (c .before .before .put-cache .ensures)
+returns-2 c = rw (c .before .before .before .before .before .node2 .given .1) (c .before .before .put-fields2 .ensures)
 
 returns-3 : tie.Need-returns-3
-returns-3 c = rw (c .before .before .before .before .before .node3 .given .1) (c .before .before .put-memory .ensures)
+returns-3 c = rw (c .before .before .before .before .before .node3 .given .1) (c .before .before .put-fields3 .ensures)
 
 returns-4 : tie.Need-returns-4
-returns-4 c = rw (c .before .before .before .before .before .node4 .given .1) (c .before .before .put-initiator .ensures)
+returns-4 c = rw (c .before .before .before .before .before .node4 .given .1) (c .before .before .put-fields4 .ensures)
 
 returns-5 : tie.Need-returns-5
-returns-5 c = rw (c .before .before .before .before .before .node5 .given .1) (c .before .before .put-rintc .ensures)
+returns-5 c = rw (c .before .before .before .before .before .node5 .given .1) (c .before .before .put-fields5 .ensures)
 
 returns-6 : tie.Need-returns-6
-returns-6 c = rw (c .before .before .before .before .before .node6 .given .1) (c .before .before .put-domain .ensures)
+returns-6 c = rw (c .before .before .before .before .before .node6 .given .1) (c .before .before .put-fields6 .ensures)
 
 returns-7 : tie.Need-returns-7
-returns-7 c = rw (c .before .before .before .before .before .node7 .given .1) (c .before .before .put-matrix .ensures)
+returns-7 c = rw (c .before .before .before .before .before .node7 .given .1) (c .before .before .put-fields7 .ensures)
 
 returns-8 : tie.Need-returns-8
-returns-8 c = rw (c .before .before .before .before .before .node8 .given .1) (c .before .before .put-side .ensures)
+returns-8 c = rw (c .before .before .before .before .before .node8 .given .1) (c .before .before .put-fields8 .ensures)
 
 returns-9 : tie.Need-returns-9
 returns-9 c = rw (c .enum-told .given .1) (sym (over-none (c .before .before .before .args .answer .now) (c .before .before .before .args .at) [] (omega arith)))

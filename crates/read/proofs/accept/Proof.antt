@@ -1,9 +1,33 @@
 -- `accept` meets its contract: the header, and then the records of the table's own bytes.
+use mathlib.Core.Path.{_≡_, sym}
+use Prim.Native.Nat.{ℕ, _≤_}
+use mathlib.Core.List.{List}
+use native.Mathlib.Omega.{arith}
+use lib.ListN.{length}
+use lib.Seq.{length-take-le}
 use borrow.Author.Needs.{needs}
-use Rattle.format.specs.Read.{walked, accept}
+use Rattle.format.specs.Bytes.{given}
+use Rattle.format.specs.Table.{Table, limit}
+use Rattle.format.specs.Read.{own, lengthIn, judgeHead, walked, accept}
 use Rattle.laws.proofs.Bytes.{value-byte}
+use Rattle.laws.proofs.Trips.{judged}
 use Rattle.read.proofs.accept.Statement.{statement}
 use Rattle.read.proofs.accept.Tie as tie
+
+-- a table whose header is good is within the limit
+judged-short : (b : List ℕ) (t : Table) → judgeHead b ≡ given t → length (own b) ≤ limit
+judged-short b t h =
+    let J = judged b t h in
+    let l : length (own b) ≡ lengthIn b = length-take-le (lengthIn b) b (J .lent) in
+    omega (arith, J .short)
+
+scan-requires : tie.Need-scan-requires
+scan-requires c κs =
+    let o = c .before in
+    let t = o .before .before in
+    let h = t .before .before in
+    let s = h .before .before in
+    rw (o .own .ensures) (judged-short (s .args .table .now) _ (sym (rw (t .t .given .1) at (h .judge-head .ensures))))
 
 returns : tie.Need-returns
 unfolding accept walked
@@ -26,7 +50,7 @@ accept-spec =
     (λ c. search needs)
     (λ c κs. search needs)
     (λ c κs. search needs)
-    (λ c κs. search needs)
+    scan-requires
     (λ c. search needs)
     returns
     returns-2)

@@ -9,6 +9,7 @@ use Rattle.format.specs.Read.{framed}
 use Rattle.header.specs.Header.{meant}
 use Rattle.frames.proofs.Places.{room}
 use Rattle.read.specs.Places.{judgedAt}
+use Rattle.read.proofs.Refs.{known-of}
 use Rattle.read.proofs.Walks.{judged-by}
 use Rattle.read.proofs.judge.Statement.{statement}
 use Rattle.read.proofs.judge.Tie as tie
@@ -37,10 +38,17 @@ returns-3 c =
     let b = k .before .before in
     let f = b .before .before in
     let a = f .before .before .before .before .args in
-    let j = judged-by (meant (a .t)) (a .c .now) (a .revision) (a .mask) (a .p) _ _ _ _ _ _ _ (f .before .rest .ensures) (b .record-in .ensures) (k .before .row-of .ensures) (k .known .ensures) (f .framed .ensures) (s .sound .ensures) (g .refs-good .ensures) in
-    sym (j ∙ rw (not-false (f .framed .result) (b .before .if1 .left), not-false (s .sound .result) (g .before .if2 .left), not-true (g .refs-good .result) (c .if3 .taken)))
+    let j = judged-by (meant (a .t)) (a .c .now) (a .revision) (a .mask) (a .p) _ _ _ _ _ _ _ (f .before .rest .ensures) (b .record-in .ensures) (k .before .row-of .ensures) (k .known .ensures) (f .framed .ensures) (s .sound .ensures) (g .refs-stand .ensures) in
+    sym (j ∙ rw (not-false (f .framed .result) (b .before .if1 .left), not-false (s .sound .result) (g .before .if2 .left), not-true (g .refs-stand .result) (c .if3 .taken)))
 
-add-next : tie.Need-add-t17
+refs-stand-requires : tie.Need-refs-stand-requires
+refs-stand-requires c κs =
+    let k = c .before .before in
+    let f = k .before .before .before .before in
+    let s = f .before .before .before .before in
+    (s .pre, known-of (meant (s .args .t)) (s .args .revision) _ (s .args .mask) _ _ _ (k .before .row-of .ensures) (k .known .ensures))
+
+add-next : tie.Need-add-t18
 add-next c =
     let b = c .before .before .before .before .before .before in
     let f = b .before .before in
@@ -56,8 +64,8 @@ returns-4 c =
     let b = k .before .before in
     let f = b .before .before in
     let a = f .before .before .before .before .args in
-    let j = judged-by (meant (a .t)) (a .c .now) (a .revision) (a .mask) (a .p) _ _ _ _ _ _ _ (f .before .rest .ensures) (b .record-in .ensures) (k .before .row-of .ensures) (k .known .ensures) (f .framed .ensures) (s .sound .ensures) (g .refs-good .ensures) in
-    sym (j ∙ rw (not-false (f .framed .result) (b .before .if1 .left), not-false (s .sound .result) (g .before .if2 .left), not-false (g .refs-good .result) (c .if3 .left)))
+    let j = judged-by (meant (a .t)) (a .c .now) (a .revision) (a .mask) (a .p) _ _ _ _ _ _ _ (f .before .rest .ensures) (b .record-in .ensures) (k .before .row-of .ensures) (k .known .ensures) (f .framed .ensures) (s .sound .ensures) (g .refs-stand .ensures) in
+    sym (j ∙ rw (not-false (f .framed .result) (b .before .if1 .left), not-false (s .sound .result) (g .before .if2 .left), not-false (g .refs-stand .result) (c .if3 .left)))
 
 pub judge-spec : {M : Type 1} → statement M
 judge-spec =
@@ -71,7 +79,7 @@ judge-spec =
     (λ c κs. search needs)
     (λ c κs. search needs)
     returns-2
-    (λ c κs. search needs)
+    refs-stand-requires
     returns-3
     add-next
     returns-4)

@@ -5,31 +5,32 @@ use native.Mathlib.Omega.{arith}
 use borrow.Author.Needs.{needs}
 use lib.ListN.{length}
 use Rattle.header.specs.Header.{meant}
-use Rattle.read.specs.Places.{Marked}
-use Rattle.read.proofs.Marks.{came-reached}
-use Rattle.read.proofs.Walks.{Scanning, scan-first, scan-end, scan-bad, scan-moves, scan-next}
+use Rattle.marks.specs.Marks.{Every}
+use Rattle.frames.specs.Frames.{Passed}
+use Rattle.read.proofs.Walks.{Scanning, scan-first, scan-noted, scan-end, scan-bad, scan-moves, scan-next}
 use Rattle.read.proofs.judge_all.Statement.{statement}
 use Rattle.read.proofs.judge_all.Tie as tie
 
 abbrev Inv-loop : tie.InvT-loop
-Inv-loop t c marks₀ revision mask p₀ count₀ marks p count = (count ≤ p) × Scanning (meant t) c revision mask p count × Marked (meant t) c marks × (length marks ≡ length marks₀)
+Inv-loop t c marks₀ shift revision mask p₀ count₀ marks p count = (count ≤ p) × Scanning (meant t) c revision mask p count × Every (Passed (meant t) c) marks × (length marks ≡ length marks₀)
 
 abbrev μ-loop : tie.MeasureT-loop
-μ-loop t c marks₀ revision mask p₀ count₀ marks p count = length c - p
+μ-loop t c marks₀ shift revision mask p₀ count₀ marks p count = length c - p
 
 loop-holds : tie.Need-loop-holds Inv-loop μ-loop
 loop-holds c =
     let s = c .before .before .before in
     let a = s .args in
-    (omega arith, rw (c .front .ensures) (scan-first (meant (a .t)) (a .c .now) (a .revision) (a .mask)), s .pre, refl)
-
-mark-requires : tie.Need-mark-requires Inv-loop μ-loop
-mark-requires c κs =
-    let l = c .before .before in
-    (l .loop .inv .2, came-reached _ _ (l .loop .inv .1 .1))
+    (omega arith, rw (c .front .ensures) (scan-first (meant (a .t)) (a .c .now) (a .revision) (a .mask)), s .pre .1, refl)
 
 judge-requires : tie.Need-judge-requires Inv-loop μ-loop
-judge-requires c κs = c .before .before .before .mark .ensures
+judge-requires c κs =
+    let n = c .before .before .before in
+    let i = n .before .before in
+    let l = i .before in
+    let s = l .before .before .before .before in
+    let a = s .args in
+    scan-noted (meant (a .t)) (a .c .now) (a .revision) (a .mask) (l .loop .p) (l .loop .count) (l .loop .inv .1) (a .shift) (l .loop .p) (l .loop .marks) _ (omega (arith, s .pre .0, i .loop-test .taken)) (n .note .ensures) (l .loop .inv .2)
 
 loop-less : tie.Need-loop-less Inv-loop μ-loop
 loop-less c =
@@ -49,7 +50,7 @@ loop-again c =
     let a = l .before .before .before .before .args in
     let e = rw (c .before .q .given .1) at (j .judge .ensures) in
     let m = scan-moves (meant (a .t)) (a .c .now) (a .revision) (a .mask) (l .loop .p) (l .loop .count) (l .loop .inv .1) (i .loop-test .taken) _ e in
-    (omega arith, scan-next (meant (a .t)) (a .c .now) (a .revision) (a .mask) (l .loop .p) (l .loop .count) (l .loop .inv .1) (i .loop-test .taken) _ e, j .before .before .before .before .mark .ensures, search needs)
+    (omega arith, scan-next (meant (a .t)) (a .c .now) (a .revision) (a .mask) (l .loop .p) (l .loop .count) (l .loop .inv .1) (i .loop-test .taken) _ e, judge-requires (j .before) (j .judge .lifetimes), search needs)
 
 returns : tie.Need-returns Inv-loop μ-loop
 returns c =
@@ -74,7 +75,9 @@ judge-all-spec =
     μ-loop
     (λ c κs. search needs)
     loop-holds
-    mark-requires
+    (λ c. omega (arith, c .before .before .before .before .before .pre .0))
+    (λ c. omega (arith, c .before .before .before .before .before .pre .0))
+    (λ c κs. search needs)
     judge-requires
     (λ c. search needs)
     (λ c. search needs)

@@ -2,7 +2,9 @@
 use mathlib.Core.Path.{sym, _∙_}
 use borrow.Author.Needs.{needs}
 use borrow.Author.Tests.{lt-ltb, le-ltb}
+use Rattle.format.specs.Table.{pptt}
 use Rattle.frames.specs.Frames.{refers}
+use Rattle.frames.proofs.Marks.{near-named}
 use Rattle.read.proofs.refers.Statement.{statement}
 use Rattle.read.proofs.refers.Tie as tie
 
@@ -13,8 +15,10 @@ returns c = rw (le-ltb _ _ (c .if1 .taken))
 returns-2 : tie.Need-returns-2
 unfolding refers
 returns-2 c =
-    let n = c .before in
-    rw (lt-ltb _ _ (n .before .if1 .left)) (c .starts .ensures ∙ sym (n .near .ensures (n .before .before .before .before .args .ty)))
+    let m = c .before in
+    let s = m .before .before .before .before in
+    let a = s .args in
+    rw (lt-ltb _ _ (m .before .if1 .left)) (c .starts .ensures ∙ rw (m .toward-place .ensures) (sym (near-named pptt (a .c .now) (a .marks .now) (a .shift) (a .v) (s .pre) (a .ty))))
 
 pub refers-spec : {M : Type 1} → statement M
-refers-spec = tie.close (tie.spec returns (λ c κs. search needs) (λ c κs. search needs) returns-2)
+refers-spec = tie.close (tie.spec returns (λ c. search needs) (λ c κs. search needs) (λ c κs. search needs) returns-2)

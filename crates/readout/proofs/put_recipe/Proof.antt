@@ -13,8 +13,8 @@ returns : tie.Need-returns
 unfolding written
 returns c = rw (lt-ltb _ _ (c .if1 .taken)) (refl, refl)
 
-put-records-requires : tie.Need-put-records-requires
-put-records-requires c κs = rw (c .before .own .ensures) (c .before .before .before .before .before .before .before .before .before .before .pre .1)
+put-calls-requires : tie.Need-put-calls-requires
+put-calls-requires c κs = rw (c .before .own .ensures) (c .before .before .before .before .before .before .before .before .before .before .pre .1)
 
 returns-2 : tie.Need-returns-2
 unfolding written
@@ -25,7 +25,7 @@ returns-2 c =
     let e = h .before .before in
     let s = e .before .before .before in
     let b = s .args .table .now in
-    let r = rw (o .before .revision-in .ensures, ← value-byte b 8, o .own .ensures) at (v .put-records .ensures .1) in
+    let r = rw (o .before .revision-in .ensures, ← value-byte b 8, o .own .ensures) at (v .put-calls .ensures) in
     rw (le-ltb _ _ (e .if1 .left)) (refl, recipe-laid (meant (s .args .t)) b _ _ _ (s .pre .0) (h .put-body .ensures) r)
 
 pub put-recipe-spec : {M : Type 1} → statement M
@@ -36,6 +36,6 @@ put-recipe-spec =
     (λ c κs. search needs)
     (λ c κs. search needs)
     (λ c κs. search needs)
-    put-records-requires
+    put-calls-requires
     (λ c. search needs)
     returns-2)

@@ -1,10 +1,13 @@
 -- `put_record` meets its contract, row by row.
-use mathlib.Core.Path.{_≡_, refl}
+use mathlib.Core.Path.{_≡_, refl, sym, subst}
 use mathlib.Core.Option.{some}
 use native.Mathlib.Omega.{arith}
 use borrow.Author.Needs.{needs}
+use Rattle.format.specs.Table.{Table}
 use Rattle.format.specs.Form.{memory, rintc, domain, layout}
-use Rattle.format.specs.Row.{initiators, matrices, formIn}
+use Rattle.format.specs.Row.{processors, caches, initiators, matrices, formIn}
+use Rattle.marks.specs.Marks.{Every}
+use Rattle.frames.specs.Frames.{Passed}
 use Rattle.rows.specs.Rows.{rowMeant}
 use Rattle.read.proofs.Refs.{plain-row}
 use Rattle.readout.proofs.Lists.{none-laid}
@@ -12,19 +15,41 @@ use Rattle.readout.proofs.Records.{node-short, node-laid, initiator-one
 use Rattle.readout.proofs.put_record.Statement.{statement}
 use Rattle.readout.proofs.put_record.Tie as tie
 
+put-processor-requires : tie.Need-put-processor-requires
+put-processor-requires c κs =
+    let s = c .before .before .before .before .before .before .before in
+    let e : rowMeant (s .args .row) ≡ some processors = rw (c .before .enum-told .given .1) in
+    (subst (λ (t : Table). Every (Passed t (s .args .c .now)) (s .args .marks .now)) (sym (s .pre .1 processors e)) (s .pre .0), s .pre .2 .headed e, s .pre .2 .short, search needs)
+
+put-cache-requires : tie.Need-put-cache-requires
+put-cache-requires c κs =
+    let s = c .before .before .before .before .before .before .before in
+    let e : rowMeant (s .args .row) ≡ some caches = rw (c .before .enum-told2 .given .1) in
+    (subst (λ (t : Table). Every (Passed t (s .args .c .now)) (s .args .marks .now)) (sym (s .pre .1 caches e)) (s .pre .0), s .pre .2 .whole e, search needs)
+
 put-matrix-requires : tie.Need-put-matrix-requires
 put-matrix-requires c κs =
-    let s = c .before .before .before .before .before .before in
+    let s = c .before .before .before .before .before .before .before in
     let e : rowMeant (s .args .row) ≡ some matrices = rw (c .before .enum-told7 .given .1) in
-    (s .pre .0 .initiators e, s .pre .0 .targets e, search needs)
+    (s .pre .2 .initiators e, s .pre .2 .targets e, search needs)
 
 returns : tie.Need-returns
 unfolding formIn
-returns c = let v = c .before .before in rw (v .before .before .enum-told .given .1) (v .put-processor .ensures .0, omega arith)
+returns c =
+    let v = c .before .before in
+    let k = v .before .before in
+    let s = k .before .before .before .before .before .before in
+    let e : rowMeant (s .args .row) ≡ some processors = rw (k .enum-told .given .1) in
+    rw (k .enum-told .given .1, ← s .pre .1 processors e) (v .put-processor .ensures .0, omega arith)
 
 returns-2 : tie.Need-returns-2
 unfolding formIn
-returns-2 c = let v = c .before .before in rw (v .before .before .enum-told2 .given .1) (v .put-cache .ensures .0, omega arith)
+returns-2 c =
+    let v = c .before .before in
+    let k = v .before .before in
+    let s = k .before .before .before .before .before .before in
+    let e : rowMeant (s .args .row) ≡ some caches = rw (k .enum-told2 .given .1) in
+    rw (k .enum-told2 .given .1, ← s .pre .1 caches e) (v .put-cache .ensures .0, omega arith)
 
 add-result : tie.Need-add-result
 add-result c =
@@ -97,9 +122,9 @@ put-record-spec =
     tie.close
     (tie.spec
     (λ c. search needs)
-    (λ c κs. search needs)
+    put-processor-requires
     (λ c. search needs)
-    (λ c κs. search needs)
+    put-cache-requires
     (λ c. search needs)
     (λ c κs. search needs)
     (λ c κs. search needs)

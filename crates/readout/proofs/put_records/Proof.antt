@@ -1,5 +1,5 @@
--- `put_records` meets its contract. The invariant: what is still to come from here on.
-use mathlib.Core.Path.{sym, ap, _∙_}
+-- `put_records` meets its contract. The invariant: what is still to come from here on, and marks that the walk has come to, as it has here.
+use mathlib.Core.Path.{_≡_, refl, sym, ap, _∙_}
 use Prim.Native.Nat.{_-_, _+_, _*_, _≤_}
 use native.Mathlib.Omega.{arith}
 use borrow.Author.Needs.{needs}
@@ -7,91 +7,107 @@ use borrow.Author.Tests.{not-true, not-false}
 use lib.ListN.{length}
 use Rattle.header.specs.Header.{meant}
 use Rattle.laws.proofs.Bytes.{length-over}
-use Rattle.readout.proofs.Scans.{Writing, writing-start, writing-end, writing-bad, writing-unknown, writing-next, small-record, turns}
+use Rattle.laws.proofs.Masks.{row-home}
+use Rattle.marks.specs.Marks.{noted, Every}
+use Rattle.marks.proofs.Laws.{noted-keeps}
+use Rattle.frames.specs.Frames.{Passed}
+use Rattle.rows.specs.Rows.{rowMeant}
+use Rattle.readout.proofs.Scans.{Writing, writing-start, writing-end, writing-bad, writing-unknown, writing-next, passed-next, small-record, Turn, turns}
 use Rattle.readout.proofs.put_records.Statement.{statement}
 use Rattle.readout.proofs.put_records.Tie as tie
 
 abbrev Inv-loop : tie.InvT-loop
-Inv-loop t revision c out₀ p₀ q₀ out p q = (q ≤ 28 + 2000000 * p) × Writing (meant t) revision c out₀ out p q
+Inv-loop t revision c marks₀ shift out₀ p₀ q₀ count₀ marks out p q count =
+    (q ≤ 28 + 2000000 * p) × (count ≤ p) × (length marks ≡ length marks₀) × Writing (meant t) revision c out₀ out p q
+    × Passed (meant t) c (record { nodes = count; place = p }) × Every (Passed (meant t) c) marks
 
 abbrev μ-loop : tie.MeasureT-loop
-μ-loop t revision c out₀ p₀ q₀ out p q = length c - p
+μ-loop t revision c marks₀ shift out₀ p₀ q₀ count₀ marks out p q count = length c - p
 
 loop-holds : tie.Need-loop-holds Inv-loop μ-loop
-loop-holds c = (omega arith, rw (c .front .ensures) (writing-start _ _ _ _))
+loop-holds c = (omega arith, omega arith, refl, rw (c .front .ensures) (writing-start _ _ _ _), rw (c .front .ensures) (λ v l. refl), c .before .before .before .before .pre .0)
+
+cast-t16 : tie.Need-cast-t16 Inv-loop μ-loop
+cast-t16 c = let s = c .before .before .before .before .before .before in omega (arith, s .pre .1)
 
 returns : tie.Need-returns Inv-loop μ-loop
 returns c =
     let r = c .before .before in
-    let l = r .before .before in
+    let i = r .before .before .before .before .before in
     let f = rw (r .rest .ensures) at (sym (c .before .framed .ensures) ∙ not-true _ (c .if1 .taken)) in
-    writing-bad _ _ _ _ (r .before .loop-test .taken) f (l .loop .inv .1)
+    writing-bad _ _ _ _ (i .loop-test .taken) f (i .before .loop .inv .3)
 
-same-length : tie.Need-same-length Inv-loop μ-loop
-same-length c = ap length (returns c .1) ∙ length-over _ _ _
+same-length-2 : tie.Need-same-length-2 Inv-loop μ-loop
+same-length-2 c = ap length (returns c) ∙ length-over _ _ _
+
+-- from where the row is known back to the turn's mark, the turn's start and the call's
+abbrev noting : tie.After-row-of Inv-loop μ-loop → tie.After-note Inv-loop μ-loop
+noting k = k .before .before .before .before .before .before .before
+
+abbrev turn : tie.After-row-of Inv-loop μ-loop → tie.In-loop Inv-loop μ-loop
+turn k = noting k .before .before
+
+abbrev call : tie.After-row-of Inv-loop μ-loop → tie.Start Inv-loop μ-loop
+call k = turn k .before .before .before .before .before .before
+
+-- what the turn has learnt of the record
+learnt : (k : tie.After-row-of Inv-loop μ-loop)
+    → Turn (meant (call k .args .t)) (call k .args .revision) (call k .args .c .now) (turn k .before .loop .p) (k .before .record-in .result .now) (rowMeant (k .row-of .result))
+learnt k =
+    let d = k .before in
+    let f = d .before .before in
+    turns _ _ _ _ _ _ _ _ (f .before .rest .ensures) (f .framed .ensures) (not-false _ (d .before .if1 .left)) (d .record-in .ensures) (k .row-of .ensures)
+
+-- the marks with the turn's
+marked : (k : tie.After-row-of Inv-loop μ-loop) → let l = turn k .before in let a = call k .args in
+    Every (Passed (meant (a .t)) (a .c .now)) (noted (record { nodes = l .loop .count; place = l .loop .p }) (a .shift) (l .loop .p) (l .loop .marks))
+marked k = let l = turn k .before in noted-keeps (Passed _ _) _ _ _ _ (omega (arith, turn k .loop-test .taken, call k .pre .1)) (l .loop .inv .4) (l .loop .inv .5)
 
 returns-2 : tie.Need-returns-2 Inv-loop μ-loop
 returns-2 c =
     let k = c .before .before in
-    let d = k .before in
-    let r = d .before .before .before in
-    let l = r .before .before in
-    let a = l .before .before .before .before .args in
-    let T = turns (meant (a .t)) (a .revision) (a .c .now) (l .loop .p) _ _ _ _ (r .rest .ensures) (d .before .before .framed .ensures) (not-false _ (d .before .if1 .left)) (d .record-in .ensures) (k .row-of .ensures) in
-    writing-unknown _ _ _ _ (T .frame) (rw (T .row) at (sym (c .before .is-known .ensures) ∙ not-true _ (c .if2 .taken))) (l .loop .inv .1)
+    writing-unknown _ _ _ _ (learnt k) (sym (c .before .is-known .ensures) ∙ not-true _ (c .if2 .taken)) (turn k .before .loop .inv .3)
+
+same-length-4 : tie.Need-same-length-4 Inv-loop μ-loop
+same-length-4 c = ap length (returns-2 c) ∙ length-over _ _ _
 
 put-record-requires : tie.Need-put-record-requires Inv-loop μ-loop
 put-record-requires c κs =
-    let k = c .before .before .before in
-    let d = k .before in
-    let r = d .before .before .before in
-    let l = r .before .before in
-    let a = l .before .before .before .before .args in
-    let T = turns (meant (a .t)) (a .revision) (a .c .now) (l .loop .p) _ _ _ _ (r .rest .ensures) (d .before .before .framed .ensures) (not-false _ (d .before .if1 .left)) (d .record-in .ensures) (k .row-of .ensures) in
-    let m : length (a .c .now) ≤ 1048576 = l .before .before .before .before .pre in
-    let i = r .before .loop-test .taken in
-    (rw (k .row-of .ensures) (small-record _ _ _ _ (omega (arith, T .inside))), omega arith)
+    let k = c .before .before .before .before in
+    let T = learnt k in
+    let p = call k .pre .1 in
+    (rw (noting k .note .ensures) (marked k), rw (k .row-of .ensures) (row-home _ _ _ _), rw (k .row-of .ensures) (small-record _ _ _ _ (omega (arith, T .inside, p))), omega (arith, T .inside, p))
 
 add-p : tie.Need-add-p Inv-loop μ-loop
-add-p c =
-    let k = c .before .before .before .before .before .before in
-    let d = k .before in
-    let r = d .before .before .before in
-    let l = r .before .before in
-    let a = l .before .before .before .before .args in
-    let T = turns (meant (a .t)) (a .revision) (a .c .now) (l .loop .p) _ _ _ _ (r .rest .ensures) (d .before .before .framed .ensures) (not-false _ (d .before .if1 .left)) (d .record-in .ensures) (k .row-of .ensures) in
-    omega (arith, T .inside)
+add-p c = let k = c .before .before .before .before .before .before .before in omega (arith, learnt k .inside, call k .pre .1)
+
+add-count : tie.Need-add-count Inv-loop μ-loop
+add-count c = let k = c .before .before .before .before .before .before .before in omega (arith, turn k .loop-test .taken, call k .pre .1)
 
 loop-less : tie.Need-loop-less Inv-loop μ-loop
-loop-less c =
-    let k = c .before .before .before .before .before .before in
-    let d = k .before in
-    let r = d .before .before .before in
-    let l = r .before .before in
-    let a = l .before .before .before .before .args in
-    let T = turns (meant (a .t)) (a .revision) (a .c .now) (l .loop .p) _ _ _ _ (r .rest .ensures) (d .before .before .framed .ensures) (not-false _ (d .before .if1 .left)) (d .record-in .ensures) (k .row-of .ensures) in
-    omega (arith, T .inside, T .some)
+loop-less c = let T = learnt (c .before .before .before .before .before .before .before) in omega (arith, T .inside, T .some)
 
 loop-again : tie.Need-loop-again Inv-loop μ-loop
 loop-again c =
-    let k = c .before .before .before .before .before .before in
-    let d = k .before in
-    let r = d .before .before .before in
-    let l = r .before .before in
-    let a = l .before .before .before .before .args in
-    let T = turns (meant (a .t)) (a .revision) (a .c .now) (l .loop .p) _ _ _ _ (r .rest .ensures) (d .before .before .framed .ensures) (not-false _ (d .before .if1 .left)) (d .record-in .ensures) (k .row-of .ensures) in
     let v = c .before .before in
-    let u = rw (T .row) at (sym (c .before .before .before .before .before .is-known .ensures) ∙ not-false _ (c .before .before .before .before .if2 .left)) in
-    (omega (arith, T .some), rw (T .body) (writing-next _ _ _ _ (T .frame) u (rw (T .row, T .body) at (v .put-record .ensures .0)) (l .loop .inv .1)))
-
-same-length-2 : tie.Need-same-length-2 Inv-loop μ-loop
-same-length-2 c = ap length (returns-2 c .1) ∙ length-over _ _ _
+    let e = v .before .before .before in
+    let k = e .before .before in
+    let l = turn k .before in
+    let n = noting k in
+    let T = learnt k in (
+      omega (arith, v .put-record .ensures .1, T .some),
+      omega (arith, T .some),
+      search needs,
+      writing-next _ _ _ _ T (sym (e .before .is-known .ensures) ∙ not-false _ (e .if2 .left)) (v .put-record .ensures .0) (l .loop .inv .3),
+      passed-next T (l .loop .count) (l .loop .inv .4),
+      rw (n .note .ensures) (marked k),
+    )
 
 returns-3 : tie.Need-returns-3 Inv-loop μ-loop
-returns-3 c = writing-end _ _ _ _ (c .loop-test .left) (c .before .loop .inv .1)
+returns-3 c = writing-end _ _ _ _ (c .loop-test .left) (c .before .loop .inv .3)
 
-same-length-3 : tie.Need-same-length-3 Inv-loop μ-loop
-same-length-3 c = ap length (returns-3 c .1) ∙ length-over _ _ _
+same-length-6 : tie.Need-same-length-6 Inv-loop μ-loop
+same-length-6 c = ap length (returns-3 c) ∙ length-over _ _ _
 
 pub put-records-spec : {M : Type 1} → statement M
 put-records-spec =
@@ -102,18 +118,24 @@ put-records-spec =
     (λ c κs. search needs)
     (λ c. search needs)
     loop-holds
+    cast-t16
     (λ c κs. search needs)
     (λ c κs. search needs)
-    same-length
+    (λ c κs. search needs)
+    (λ c. search needs)
+    same-length-2
     returns
     (λ c κs. search needs)
     (λ c κs. search needs)
     (λ c κs. search needs)
-    same-length-2
+    (λ c. search needs)
+    same-length-4
     returns-2
     put-record-requires
     add-p
+    add-count
     loop-less
     loop-again
-    same-length-3
+    (λ c. search needs)
+    same-length-6
     returns-3)

@@ -5,12 +5,12 @@ use mathlib.Core.List.{[], _∷_}
 use native.Mathlib.Omega.{arith}
 use borrow.Author.Needs.{needs}
 use lib.ListN.{replicate}
+use Rattle.format.specs.Table.{pptt}
 use Rattle.format.specs.Layout.{to, width, layWith}
 use Rattle.format.specs.Kind.{Resource, body}
 use Rattle.format.specs.Normal.{each}
 use Rattle.laws.specs.Offsets.{fieldsAt}
 use Rattle.laws.proofs.Fields.{length-call}
-use Rattle.header.specs.Header.{meant}
 use Rattle.pptt.specs.declared.CacheHandle.{CacheHandle}
 use Rattle.readout.specs.Places.{ordinalAt}
 use Rattle.readout.proofs.Lists.{Coming, all-coming, laid-length, put-laid, low-word, come-each, each-laid}
@@ -18,16 +18,16 @@ use Rattle.readout.proofs.put_resources.Statement.{statement}
 use Rattle.readout.proofs.put_resources.Tie as tie
 
 abbrev Inv-loop : tie.InvT-loop
-Inv-loop t c own bs n out₀ at p₀ i₀ out p i =
+Inv-loop c ms shift own bs n out₀ at p₀ i₀ out p i =
     (i ≤ n) × (p ≡ at + 5 * i)
-    × Coming out₀ at (each Resource (fieldsAt (ordinalAt (meant t) c own) (replicate n (to 1)) bs 20)) out p (each Resource (fieldsAt (ordinalAt (meant t) c own) (replicate (n - i) (to 1)) bs (20 + 4 * i)))
+    × Coming out₀ at (each Resource (fieldsAt (ordinalAt pptt c own) (replicate n (to 1)) bs 20)) out p (each Resource (fieldsAt (ordinalAt pptt c own) (replicate (n - i) (to 1)) bs (20 + 4 * i)))
 
 abbrev μ-loop : tie.MeasureT-loop
-μ-loop t c own bs n out₀ at p₀ i₀ out p i = n - i
+μ-loop c ms shift own bs n out₀ at p₀ i₀ out p i = n - i
 
 loop-holds : tie.Need-loop-holds Inv-loop μ-loop
 loop-holds c =
-    let n = c .before .before .before .args .n in
+    let n = c .before .before .before .before .args .n in
     let e : n - 0 ≡ n = omega arith in
     (omega arith, omega arith, rw e (all-coming _ _ _))
 
@@ -35,8 +35,10 @@ add-p : tie.Need-add-p Inv-loop μ-loop
 unfolding body width
 add-p c =
     let v = c .before .before in
+    let l = v .before .before .before .before .before in
+    let s = l .before .before .before .before .before in
     let z : v .put-body .result ≡ 5 = v .put-body .ensures .1 ∙ length-call Resource _ in
-    omega arith
+    omega (arith, s .pre .1)
 
 loop-again : tie.Need-loop-again Inv-loop μ-loop
 unfolding body width layWith

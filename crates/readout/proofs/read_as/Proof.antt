@@ -16,31 +16,31 @@ returns c =
     let e = rw (r .before .revision-in .ensures, ← value-byte b 8, r .revision .ensures) at (ne-eqb _ _ (c .if1 .taken)) in
     rw (other-revision _ b _ e) (refl, refl)
 
-put-records-requires : tie.Need-put-records-requires
-put-records-requires c κs = rw (c .before .own .ensures) (c .before .before .before .before .before .before .before .pre .1)
+measure-requires : tie.Need-measure-requires
+measure-requires c κs = rw (c .own .ensures) (c .before .before .before .before .before .before .pre .1)
 
 returns-2 : tie.Need-returns-2
 returns-2 c =
     let v = c .before .before in
     let x = v .before .before .before in
-    let w = x .before .before .before in
-    let o = w .before .before in
+    let w = x .before .before in
+    let o = w .before in
     let r = o .before .before in
     let b = r .before .before .before .before .args .table .now in
     let e = rw (r .before .revision-in .ensures, ← value-byte b 8, r .revision .ensures) at (eq-eqb _ _ (o .before .if1 .left)) in
-    let m = rw (x .n .given .1, r .before .revision-in .ensures, ← value-byte b 8, o .own .ensures) at (w .put-records .ensures .0) in
+    let m = rw (x .n .given .1, r .before .revision-in .ensures, ← value-byte b 8, o .own .ensures) at (w .measure .ensures) in
     rw (by-measure _ b _ _ e m) (v .put-recipe .ensures .0, v .put-recipe .ensures .1)
 
 returns-3 : tie.Need-returns-3
 unfolding written
 returns-3 c =
     let x = c .before in
-    let w = x .before .before .before in
-    let o = w .before .before in
+    let w = x .before .before in
+    let o = w .before in
     let r = o .before .before in
     let b = r .before .before .before .before .args .table .now in
     let e = rw (r .before .revision-in .ensures, ← value-byte b 8, r .revision .ensures) at (eq-eqb _ _ (o .before .if1 .left)) in
-    let m = rw (x .p .given .1, r .before .revision-in .ensures, ← value-byte b 8, o .own .ensures) at (w .put-records .ensures .0) in
+    let m = rw (x .p .given .1, r .before .revision-in .ensures, ← value-byte b 8, o .own .ensures) at (w .measure .ensures) in
     rw (by-measure _ b _ _ e m) (refl, refl)
 
 pub read-as-spec : {M : Type 1} → statement M
@@ -51,8 +51,7 @@ read-as-spec =
     (λ c κs. search needs)
     returns
     (λ c κs. search needs)
-    (λ c. search needs)
-    put-records-requires
+    measure-requires
     (λ c. search needs)
     (λ c κs. search needs)
     (λ c. search needs)

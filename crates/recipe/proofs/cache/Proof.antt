@@ -7,35 +7,36 @@ use Rattle.format.specs.Node.{Node}
 use Rattle.format.specs.Kind.{Cache}
 use Rattle.format.specs.Field.{badField}
 use Rattle.recipe.specs.Machine.{refers}
+use Rattle.laws.proofs.Builds.{kind-home}
 use Rattle.laws.proofs.Fields.{failed, passed}
 use Rattle.recipe.proofs.Steps.{cache-turn}
 use Rattle.recipe.proofs.cache.Statement.{statement}
 use Rattle.recipe.proofs.cache.Tie as tie
 
 returns : tie.Need-returns
-returns c rs found t ns p e b =
+returns c t ns p e b q w =
     let g = c .before .before in
-    let a = g .before .before .args in
-    sym (cache-turn t ns (a .st) e rs b p (a .bytes .now) (a .found) _ (c .before .bad-field .ensures ∙ ap badField (g .from-body .ensures)) found ∙ rw (ne-eqb _ _ (c .if1 .taken)))
+    let a = g .before .before .before .args in
+    sym (cache-turn t ns (a .st) e (a .types .now) (w (sym (kind-home t b Cache q))) p (a .bytes .now) _ (c .before .bad-field .ensures ∙ ap badField (g .from-body .ensures)) ∙ rw (ne-eqb _ _ (c .if1 .taken)))
 
 returns-2 : tie.Need-returns-2
-returns-2 c rs found t ns p e b =
+returns-2 c t ns p e b q w =
     let d = c .before .before .before .before in
     let g = d .before .before in
-    let a = g .before .before .args in
+    let a = g .before .before .before .args in
     let v : g .from-body .result .«next_level» .0 ≡ refers Cache (a .bytes .now) = ap (λ (n : Node). at (n .values) 1) (g .from-body .ensures) in
-    sym (cache-turn t ns (a .st) e rs b p (a .bytes .now) (a .found) _ (d .before .bad-field .ensures ∙ ap badField (g .from-body .ensures)) found
+    sym (cache-turn t ns (a .st) e (a .types .now) (w (sym (kind-home t b Cache q))) p (a .bytes .now) _ (d .before .bad-field .ensures ∙ ap badField (g .from-body .ensures))
     ∙ rw (eq-eqb _ _ (d .if1 .left), ← v, failed (c .before .is-cache-or-none .ensures) (c .if2 .taken)))
 
 returns-3 : tie.Need-returns-3
-returns-3 c rs found t ns p e b =
+returns-3 c t ns p e b q w =
     let f = c .before in
     let d = f .before .before .before .before in
     let g = d .before .before in
-    let a = g .before .before .args in
+    let a = g .before .before .before .args in
     let v : g .from-body .result .«next_level» .0 ≡ refers Cache (a .bytes .now) = ap (λ (n : Node). at (n .values) 1) (g .from-body .ensures) in
     rw (c .grown .ensures)
-    (sym (cache-turn t ns (a .st) e rs b p (a .bytes .now) (a .found) _ (d .before .bad-field .ensures ∙ ap badField (g .from-body .ensures)) found
+    (sym (cache-turn t ns (a .st) e (a .types .now) (w (sym (kind-home t b Cache q))) p (a .bytes .now) _ (d .before .bad-field .ensures ∙ ap badField (g .from-body .ensures))
     ∙ rw (eq-eqb _ _ (d .if1 .left), ← v, passed (f .before .is-cache-or-none .ensures) (f .if2 .left))))
 
 pub cache-spec : {M : Type 1} → statement M

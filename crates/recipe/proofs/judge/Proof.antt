@@ -1,74 +1,98 @@
--- `judge` meets its contract: each kind by the function that is its own.
-use mathlib.Core.Path.{refl, ap, _∙_}
+-- `judge` meets its contract: each kind by the function that is its own, on a window that is its body.
+use mathlib.Core.Path.{_≡_, refl, sym, ap, _∙_}
+use Prim.Native.Nat.{ℕ, _≤_}
+use mathlib.Core.List.{List}
 use borrow.Author.Needs.{needs}
-use Rattle.format.specs.Layout.{refsGood}
+use lib.ListN.{length, take}
+use lib.Seq.{length-take-le}
+use Rattle.format.specs.Layout.{width, refsGood}
 use Rattle.format.specs.Form.{memory, acpi, pci, rintc, domain, side, ranges}
-use Rattle.format.specs.Kind.{Memory, Acpi, Pci, Rintc, Domain, Side, body}
+use Rattle.format.specs.Kind.{body}
+use Rattle.format.specs.Kind as format
 use Rattle.format.specs.Recipe.{step}
 use Rattle.format.specs.Field.{firstBad, badField}
-use Rattle.recipe.proofs.Steps.{plain-turn}
+use Rattle.recipe.specs.declared.Kind.{Kind}
+use Rattle.recipe.specs.declared.Kind.the-variants.{Processor, Resource, Cache, Memory, Acpi, Pci, Rintc, Matrix, Initiator, Target, Cell, Side}
+use Rattle.recipe.specs.Kinds.{meantKind}
+use Rattle.recipe.proofs.Steps.{turn-window, plain-turn}
 use Rattle.recipe.proofs.judge.Statement.{statement}
 use Rattle.recipe.proofs.judge.Tie as tie
+
+-- the window is there
+there : (kind k : Kind) → kind ≡ k → (bs : List ℕ) → width (body (meantKind kind)) ≤ length bs → width (body (meantKind k)) ≡ length (take (width (body (meantKind k))) bs)
+there kind k e bs h = sym (length-take-le (width (body (meantKind k))) bs (rw e at h))
 
 -- a domain has no field that is tested
 returns-8 : tie.Need-returns-8
 unfolding body step refsGood ranges firstBad badField
-returns-8 c rs found t ns p e b = rw (c .before .enum-told8 .given .1, c .made5 .ensures) (plain-turn Domain domain _ _ (λ ms. refl) (λ ok vs. refl) t ns p _ _ refl e)
+returns-8 c = rw (c .before .enum-told8 .given .1, c .made5 .ensures) (λ t ns p e b q w. plain-turn format.Domain domain _ _ (λ ms. refl) (λ ok vs. refl) t ns p _ _ refl e)
 
 pub judge-spec : {M : Type 1} → statement M
-unfolding body step refsGood
+unfolding body width step refsGood
 judge-spec =
     tie.close
     (tie.spec
     (λ c. search needs)
+    (λ c. let s = c .before .before .before .before .before in there _ Processor (c .before .enum-told .given .1) (s .args .bytes .now) (s .pre .1))
     (λ c κs. search needs)
     (λ c. search needs)
+    (λ c. let s = c .before .before .before .before .before in there _ Resource (c .before .enum-told2 .given .1) (s .args .bytes .now) (s .pre .1))
     (λ c κs. search needs)
     (λ c. search needs)
+    (λ c. let s = c .before .before .before .before .before in there _ Cache (c .before .enum-told3 .given .1) (s .args .bytes .now) (s .pre .1))
     (λ c κs. search needs)
     (λ c. search needs)
-    (λ c κs. search needs)
-    (λ c κs. search needs)
-    (λ c κs. search needs)
-    (λ c. search needs)
-    (λ c κs. search needs)
-    (λ c κs. search needs)
-    (λ c κs. search needs)
-    (λ c. search needs)
+    (λ c. let s = c .before .before .before .before .before in there _ Memory (c .before .enum-told4 .given .1) (s .args .bytes .now) (s .pre .1))
     (λ c κs. search needs)
     (λ c κs. search needs)
     (λ c κs. search needs)
     (λ c. search needs)
+    (λ c. let s = c .before .before .before .before .before in there _ Acpi (c .before .enum-told5 .given .1) (s .args .bytes .now) (s .pre .1))
     (λ c κs. search needs)
     (λ c κs. search needs)
     (λ c κs. search needs)
     (λ c. search needs)
+    (λ c. let s = c .before .before .before .before .before in there _ Pci (c .before .enum-told6 .given .1) (s .args .bytes .now) (s .pre .1))
+    (λ c κs. search needs)
+    (λ c κs. search needs)
     (λ c κs. search needs)
     (λ c. search needs)
-    (λ c κs. search needs)
-    (λ c. search needs)
-    (λ c κs. search needs)
-    (λ c. search needs)
-    (λ c κs. search needs)
-    (λ c. search needs)
-    (λ c κs. search needs)
-    (λ c. search needs)
+    (λ c. let s = c .before .before .before .before .before in there _ Rintc (c .before .enum-told7 .given .1) (s .args .bytes .now) (s .pre .1))
     (λ c κs. search needs)
     (λ c κs. search needs)
     (λ c κs. search needs)
     (λ c. search needs)
     (λ c κs. search needs)
-    (λ c. rw (c .before .enum-told .given .1) (c .processor .ensures))
-    (λ c. rw (c .before .enum-told2 .given .1) (c .resource .ensures))
-    (λ c. rw (c .before .enum-told3 .given .1) (c .cache .ensures))
-    (λ c rs found t ns p e b. let d = c .before .before in rw (d .before .enum-told4 .given .1, c .made .ensures) (plain-turn Memory memory _ _ (λ ms. refl) (λ ok vs. refl) t ns p _ _ (c .before .bad-field .ensures ∙ ap badField (d .from-body .ensures)) e))
-    (λ c rs found t ns p e b. let d = c .before .before in rw (d .before .enum-told5 .given .1, c .made2 .ensures) (plain-turn Acpi acpi _ _ (λ ms. refl) (λ ok vs. refl) t ns p _ _ (c .before .bad-field2 .ensures ∙ ap badField (d .from-acpi-body .ensures)) e))
-    (λ c rs found t ns p e b. let d = c .before .before in rw (d .before .enum-told6 .given .1, c .made3 .ensures) (plain-turn Pci pci _ _ (λ ms. refl) (λ ok vs. refl) t ns p _ _ (c .before .bad-field3 .ensures ∙ ap badField (d .from-pci-body .ensures)) e))
-    (λ c rs found t ns p e b. let d = c .before .before in rw (d .before .enum-told7 .given .1, c .made4 .ensures) (plain-turn Rintc rintc _ _ (λ ms. refl) (λ ok vs. refl) t ns p _ _ (c .before .bad-field4 .ensures ∙ ap badField (d .from-body2 .ensures)) e))
+    (λ c. search needs)
+    (λ c. let s = c .before .before .before .before .before in there _ Matrix (c .before .enum-told9 .given .1) (s .args .bytes .now) (s .pre .1))
+    (λ c κs. search needs)
+    (λ c. search needs)
+    (λ c. let s = c .before .before .before .before .before in there _ Initiator (c .before .enum-told10 .given .1) (s .args .bytes .now) (s .pre .1))
+    (λ c κs. search needs)
+    (λ c. search needs)
+    (λ c. let s = c .before .before .before .before .before in there _ Target (c .before .enum-told11 .given .1) (s .args .bytes .now) (s .pre .1))
+    (λ c κs. search needs)
+    (λ c. search needs)
+    (λ c. let s = c .before .before .before .before .before in there _ Cell (c .before .enum-told12 .given .1) (s .args .bytes .now) (s .pre .1))
+    (λ c κs. search needs)
+    (λ c. search needs)
+    (λ c. let s = c .before .before .before .before .before in there _ Side (c .before .enum-told13 .given .1) (s .args .bytes .now) (s .pre .1))
+    (λ c κs. search needs)
+    (λ c κs. search needs)
+    (λ c κs. search needs)
+    (λ c. search needs)
+    (λ c κs. search needs)
+    (λ c. rw (c .before .before .enum-told .given .1) (λ t ns p e b q w. c .processor .ensures t ns p e b q w ∙ turn-window t ns format.Processor _ p))
+    (λ c. rw (c .before .before .enum-told2 .given .1) (λ t ns p e b q w. c .resource .ensures t ns p e b q w ∙ turn-window t ns format.Resource _ p))
+    (λ c. rw (c .before .before .enum-told3 .given .1) (λ t ns p e b q w. c .cache .ensures t ns p e b q w ∙ turn-window t ns format.Cache _ p))
+    (λ c. let d = c .before .before in rw (d .before .before .enum-told4 .given .1, c .made .ensures) (λ t ns p e b q w. plain-turn format.Memory memory _ _ (λ ms. refl) (λ ok vs. refl) t ns p _ _ (c .before .bad-field .ensures ∙ ap badField (d .from-body .ensures)) e ∙ turn-window t ns format.Memory _ p))
+    (λ c. let d = c .before .before in rw (d .before .before .enum-told5 .given .1, c .made2 .ensures) (λ t ns p e b q w. plain-turn format.Acpi acpi _ _ (λ ms. refl) (λ ok vs. refl) t ns p _ _ (c .before .bad-field2 .ensures ∙ ap badField (d .from-acpi-body .ensures)) e ∙ turn-window t ns format.Acpi _ p))
+    (λ c. let d = c .before .before in rw (d .before .before .enum-told6 .given .1, c .made3 .ensures) (λ t ns p e b q w. plain-turn format.Pci pci _ _ (λ ms. refl) (λ ok vs. refl) t ns p _ _ (c .before .bad-field3 .ensures ∙ ap badField (d .from-pci-body .ensures)) e ∙ turn-window t ns format.Pci _ p))
+    (λ c. let d = c .before .before in rw (d .before .before .enum-told7 .given .1, c .made4 .ensures) (λ t ns p e b q w. plain-turn format.Rintc rintc _ _ (λ ms. refl) (λ ok vs. refl) t ns p _ _ (c .before .bad-field4 .ensures ∙ ap badField (d .from-body2 .ensures)) e ∙ turn-window t ns format.Rintc _ p))
     returns-8
-    (λ c rs found t ns p e b. rw (c .before .enum-told9 .given .1) (c .matrix .ensures t ns p e))
-    (λ c rs found t ns p e b. rw (c .before .enum-told10 .given .1) (c .initiator .ensures t ns p e))
-    (λ c rs found t ns p e b. rw (c .before .enum-told11 .given .1) (c .target .ensures t ns p e))
-    (λ c rs found t ns p e b. rw (c .before .enum-told12 .given .1) (c .cell .ensures t ns p e))
-    (λ c rs found t ns p e b. let d = c .before .before in rw (d .before .enum-told13 .given .1, c .made6 .ensures) (plain-turn Side (side 0) _ _ (λ ms. refl) (λ ok vs. refl) t ns p _ _ (c .before .bad-field5 .ensures ∙ ap badField (d .from-body3 .ensures)) e))
-    (λ c rs found t ns p e b. rw (c .before .enum-told14 .given .1) (c .handle .ensures _ t ns p e)))
+    (λ c. rw (c .before .before .enum-told9 .given .1) (λ t ns p e b q w. c .matrix .ensures t ns p e ∙ turn-window t ns format.Matrix _ p))
+    (λ c. rw (c .before .before .enum-told10 .given .1) (λ t ns p e b q w. c .initiator .ensures t ns p e ∙ turn-window t ns format.Initiator _ p))
+    (λ c. rw (c .before .before .enum-told11 .given .1) (λ t ns p e b q w. c .target .ensures t ns p e ∙ turn-window t ns format.Target _ p))
+    (λ c. rw (c .before .before .enum-told12 .given .1) (λ t ns p e b q w. c .cell .ensures t ns p e ∙ turn-window t ns format.Cell _ p))
+    (λ c. let d = c .before .before in rw (d .before .before .enum-told13 .given .1, c .made6 .ensures) (λ t ns p e b q w. plain-turn format.Side (side 0) _ _ (λ ms. refl) (λ ok vs. refl) t ns p _ _ (c .before .bad-field5 .ensures ∙ ap badField (d .from-body3 .ensures)) e ∙ turn-window t ns format.Side _ p))
+    (λ c. rw (c .before .enum-told14 .given .1) (λ t ns p e b q w. c .handle .ensures _ t ns p e)))

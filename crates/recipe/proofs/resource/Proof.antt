@@ -7,6 +7,7 @@ use Rattle.format.specs.Layout.{fields}
 use Rattle.format.specs.Kind.{Resource, body}
 use Rattle.format.specs.Recipe.{step}
 use Rattle.recipe.specs.Machine.{refers}
+use Rattle.laws.proofs.Builds.{kind-home}
 use Rattle.laws.proofs.Fields.{failed, passed}
 use Rattle.recipe.proofs.Steps.{turn-judged, stray-resource, resource-turn}
 use Rattle.recipe.proofs.resource.Statement.{statement}
@@ -14,38 +15,38 @@ use Rattle.recipe.proofs.resource.Tie as tie
 
 returns : tie.Need-returns
 unfolding step
-returns c rs found t ns p e b =
-    let a = c .before .before .args in
+returns c t ns p e b q w =
+    let a = c .before .before .before .args in
     sym (turn-judged t ns Resource (a .bytes .now) p ∙ rw (stray-resource t ns (a .st) e (fields (body Resource) (a .bytes .now)) (c .match .keys2)))
 
 returns-2 : tie.Need-returns-2
-returns-2 c rs found t ns p e b =
+returns-2 c t ns p e b q w =
     let g = c .before .before .before in
     let n = g .before .before in
-    let a = n .before .before .before .args in
+    let a = n .before .before .before .before .args in
     let v : g .from-body .result .cache .0 ≡ refers Resource (a .bytes .now) = ap (λ vs. at vs 0) (g .from-body .ensures) in
-    sym (resource-turn t (a .st) p (a .bytes .now) _ rs (a .found) found ns e (n .newest .given .1) b ∙ rw (← v, failed (c .before .is-cache .ensures) (c .if1 .taken)))
+    sym (resource-turn t (a .st) p (a .bytes .now) _ (a .types .now) ns e (n .newest .given .1) (w (sym (kind-home t b Resource q))) ∙ rw (← v, failed (c .before .is-cache .ensures) (c .if1 .taken)))
 
 returns-3 : tie.Need-returns-3
-returns-3 c rs found t ns p e b =
+returns-3 c t ns p e b q w =
     let d = c .before in
     let g = d .before .before .before in
     let n = g .before .before in
-    let a = n .before .before .before .args in
+    let a = n .before .before .before .before .args in
     let v : g .from-body .result .cache .0 ≡ refers Resource (a .bytes .now) = ap (λ vs. at vs 0) (g .from-body .ensures) in
-    sym (resource-turn t (a .st) p (a .bytes .now) _ rs (a .found) found ns e (n .newest .given .1) b
+    sym (resource-turn t (a .st) p (a .bytes .now) _ (a .types .now) ns e (n .newest .given .1) (w (sym (kind-home t b Resource q)))
     ∙ rw (← v, passed (d .before .is-cache .ensures) (d .if1 .left), le-leb _ _ (c .if2 .taken)))
 
 returns-4 : tie.Need-returns-4
-returns-4 c rs found t ns p e b =
+returns-4 c t ns p e b q w =
     let f = c .before in
     let d = f .before in
     let g = d .before .before .before in
     let n = g .before .before in
-    let a = n .before .before .before .args in
+    let a = n .before .before .before .before .args in
     let v : g .from-body .result .cache .0 ≡ refers Resource (a .bytes .now) = ap (λ vs. at vs 0) (g .from-body .ensures) in
     rw (c .grown .ensures)
-    (sym (resource-turn t (a .st) p (a .bytes .now) _ rs (a .found) found ns e (n .newest .given .1) b
+    (sym (resource-turn t (a .st) p (a .bytes .now) _ (a .types .now) ns e (n .newest .given .1) (w (sym (kind-home t b Resource q)))
     ∙ rw (← v, passed (d .before .is-cache .ensures) (d .if1 .left), lt-leb _ _ (f .if2 .left))))
 
 pub resource-spec : {M : Type 1} → statement M

@@ -1,7 +1,7 @@
 -- `text::refused` meets its contract: the word, the number behind it, the place behind both.
 use mathlib.Core.Path.{_∙_}
 use borrow.Author.Needs.{needs}
-use Rattle.text.specs.Text.{refusedWords}
+use Rattle.format.specs.Listing.{refusedWords}
 use Rattle.text.proofs.Laws.{laid-behind}
 use Rattle.text.proofs.refused.Statement.{statement}
 use Rattle.text.proofs.refused.Tie as tie

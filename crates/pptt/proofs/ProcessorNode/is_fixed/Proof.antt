@@ -1,40 +1,31 @@
--- `ProcessorNode::is_fixed` meets its contract, test by test; the number of resources is the one that the record has room for.
+-- `ProcessorNode::is_fixed` meets its contract: what is fixed stands in the head, and the number of resources is the one that the record has room for.
+use mathlib.Core.Path.{sym, _∙_}
+use native.Mathlib.Omega.{arith}
+use lib.Seq.{length-take-le}
 use borrow.Author.Needs.{needs}
 use Rattle.format.specs.Row.{formIn}
-use Rattle.laws.proofs.Tests.{both-false}
-use Rattle.laws.proofs.Fields.{differs, equals}
-use Rattle.pptt.proofs.Processors.{processor-fixed}
+use Rattle.pptt.proofs.Processors.{fixed-window}
 use Rattle.pptt.proofs.ProcessorNode.is_fixed.Statement.{statement}
 use Rattle.pptt.proofs.ProcessorNode.is_fixed.Tie as tie
 
+returns : tie.Need-returns
+unfolding formIn
+returns c = rw (← c .before .before .resources-in .ensures, c .is-head .ensures)
+
+slice : tie.Need-slice-aggregate-is-head
+slice c = sym (length-take-le 20 (c .before .before .before .before .args .row .now) (omega arith))
+
 returns-2 : tie.Need-returns-2
 unfolding formIn
-returns-2 c =
-    simp (processor-fixed, ← c .before .before .before .before .resources-in .ensures, differs (c .before .get-u82 .ensures) (c .if2 .taken), both-false)
-
-returns-4 : tie.Need-returns-4
-unfolding formIn
-returns-4 c =
-    let d = c .before in
-    let b = d .before .before in
-    let a = b .before .before in
-    rw (processor-fixed, ← a .before .before .resources-in .ensures, equals (a .before .get-u8 .ensures) (a .if1 .left), equals (b .before .get-u82 .ensures) (b .if2 .left), equals (d .before .get-u16 .ensures) (d .if3 .left), c .get-u32 .ensures)
+returns-2 c = rw (← c .before .before .before .resources-in .ensures) (c .is-head2 .ensures ∙ fixed-window _ _)
 
 pub is-fixed-spec : {M : Type 1} → statement M
-unfolding formIn
 is-fixed-spec =
     tie.close
     (tie.spec
     (λ c κs. search needs)
     (λ c κs. search needs)
-    (λ c. rw (processor-fixed, differs (c .before .get-u8 .ensures) (c .if1 .taken)))
+    returns
+    slice
     (λ c κs. search needs)
-    (λ c. search needs)
-    (λ c. search needs)
-    (λ c. search needs)
-    returns-2
-    (λ c κs. search needs)
-    (λ c. simp (processor-fixed, differs (c .before .get-u16 .ensures) (c .if3 .taken), both-false))
-    (λ c κs. search needs)
-    (λ c. search needs)
-    returns-4)
+    returns-2)
