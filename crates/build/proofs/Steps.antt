@@ -20,7 +20,7 @@ use Rattle.format.specs.Build.{records, header, checkOf, summed, tableFrom, tab
 use Rattle.laws.proofs.Bytes.{bytes-drop, length-part, length-over, sum-append}
 use Rattle.laws.proofs.Lays.{Fit}
 use Rattle.laws.proofs.Heads.{length-records, length-header}
-use Rattle.laws.proofs.Links.{size-pos}
+use Rattle.laws.proofs.Links.{few-nodes}
 use Rattle.laws.proofs.Good.{Good}
 use Rattle.laws.proofs.Grows.{passed, kindHome, grows}
 use Rattle.laws.proofs.Builds.{body-fits, kind-home}
@@ -28,7 +28,6 @@ use Rattle.recipe.specs.Machine.{refers}
 use Rattle.marks.specs.declared.Mark.{Mark}
 use Rattle.marks.specs.Marks.{markIn, noted, Every}
 use Rattle.marks.proofs.Laws.{none-kept, noted-keeps}
-use Rattle.build.specs.declared.Latest.{Latest}
 use Rattle.build.specs.declared.State.{State}
 use Rattle.build.specs.declared.Change.{Change}
 use Rattle.build.specs.Write.{changeOf, wrote}
@@ -51,12 +50,6 @@ older : (t : Table) (ns : List Node) → front t + sizes (drop 1 ns) ≤ front t
 unfolding sizes
 older t [] = omega arith
 older t (n ∷ ns) = omega arith
-
--- no node is empty
-few-nodes : (ns : List Node) → length ns ≤ sizes ns
-unfolding sizes
-few-nodes [] = omega arith
-few-nodes (n ∷ ns) = omega (arith, few-nodes ns, size-pos (n .form))
 
 -- ---- one record
 

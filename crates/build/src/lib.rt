@@ -121,16 +121,6 @@ impl Built {
 
 // ---- references
 
-// The first record.
-fn first() -> Mark
-    ensures { λ r. ⌜ r ≡ record { nodes = 0; place = 36 } ⌝ }
-{
-    Mark {
-        nodes: 0,
-        place: Table::PPTT_FRONT as u32,
-    }
-}
-
 // The place of record i, counted from 0, by the lengths of those between a mark and it.
 fn reached(out: &[u8], from: Mark, i: u32) -> u32
     requires { ⌜ (from .nodes ≤ i) × Leads (now out) from ⌝ }
@@ -154,7 +144,7 @@ fn place_of(out: &[u8], marks: &[u64], shift: u32, ordinal: u32) -> u32
         return 0;
     }
     let i = ordinal - 1;
-    reached(out, first().toward_node(marks, shift, i), i)
+    reached(out, Mark::first().toward_node(marks, shift, i), i)
 }
 
 // The record that a record of the recipe names.

@@ -108,6 +108,12 @@ size-pos domain = omega arith
 size-pos (matrix i t) = omega arith
 size-pos (side n) = omega arith
 
+-- no node is empty
+pub few-nodes : (ns : List Node) → length ns ≤ sizes ns
+unfolding sizes
+few-nodes [] = omega arith
+few-nodes (n ∷ ns) = omega (arith, few-nodes ns, size-pos (n .form))
+
 pub front-pos : (t : Table) → 0 < front t
 front-pos pptt = omega arith
 front-pos srat = omega arith

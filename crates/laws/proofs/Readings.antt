@@ -8,7 +8,7 @@ use mathlib.Core.Option.{Option, none, some}
 use native.Mathlib.Omega.{arith}
 use native.Mathlib.Nat.{add-zero, zero-add}
 use lib.ListN.{length, take, drop, getElem?, length-append, length-drop, drop-of-length-le}
-use lib.Seq.{drop-drop, length-take-le}
+use lib.Seq.{drop-drop}
 use lib.Dec.{eqb, leb, ltb}
 use borrow.Author.Tests.{eqb-true, eqb-false, ne-eqb, ltb-true, ltb-false}
 use Rattle.format.specs.Bytes.{pick, both, Answer, refused, given, andThen, orRefused, at, part}
@@ -123,20 +123,17 @@ module _ (t : Table) (b : List ℕ) (hd : Headed t b) where
   head : trips.Headed t b
   head = trips.judged b t (header-is b t hd)
 
-  whole : length (own b) ≡ lengthIn b
-  whole = length-take-le (lengthIn b) b (head .lent)
-
   -- what is framed from p on
   rest : ℕ → Frames
   rest p = frames t 0 p (drop p (own b))
 
   rest-end : (p : ℕ) → lengthIn b ≤ p → rest p ≡ ended
   unfolding rest frames
-  rest-end p l = rw (drop-of-length-le (own b) {i = p} (rw whole l))
+  rest-end p l = rw (drop-of-length-le (own b) {i = p} (rw (trips.own-whole head) l))
 
   module _ (p : ℕ) (l : p < lengthIn b) where
     left : length (drop p (own b)) ≡ lengthIn b - p
-    left = rw (length-drop, whole)
+    left = rw (length-drop, trips.own-whole head)
 
     tests-framed : Tests (framed t (drop p (own b))) (Framed t b p)
     unfolding framed
@@ -165,7 +162,7 @@ module _ (t : Table) (b : List ℕ) (hd : Headed t b) where
     rest-whole h = ⊎-elim (λ k. frames-whole t p (own b) (rw left (omega arith)) (omega (arith, least-pos t)) (k .0)) (λ k. absurd (k .1 h)) is-framed
 
     body-long : Framed t b p → length (bodyAt t b p) ≡ sizeAt t b p
-    body-long h = length-part (own b) p (sizeAt t b p) (rw whole (h .1 .1))
+    body-long h = length-part (own b) p (sizeAt t b p) (rw (trips.own-whole head) (h .1 .1))
 
   -- ---- the walk from a place on
 

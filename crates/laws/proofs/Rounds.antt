@@ -3,7 +3,6 @@ use mathlib.Core.Path.{_≡_}
 use Prim.Native.Nat.{ℕ, _≤_, _<_}
 use mathlib.Core.List.{List}
 use lib.ListN.{length}
-use lib.Seq.{length-take-le}
 use borrow.Author.Tests.{le-ltb, lt-ltb}
 use Rattle.format.specs.Bytes.{Bytes, over, refused, given, andThen}
 use Rattle.format.specs.Build.{fitting, build, table, written, built}
@@ -13,7 +12,7 @@ use Rattle.format.specs.Out.{every, outOf, meaningOf, readOut, recipe, outWritt
 use Rattle.laws.specs.Demand2.{ThereAndBack, BackAndThere}
 use Rattle.laws.specs.Buffers.{Front}
 use Rattle.laws.proofs.Finds.{then-given}
-use Rattle.laws.proofs.Trips.{judged}
+use Rattle.laws.proofs.Trips.{judged, own-whole}
 use Rattle.laws.proofs.Promises as Promises
 use Rattle.laws.proofs.Buffers.{build-leaves, out-leaves}
 
@@ -50,7 +49,7 @@ unfolding readOut meaningOf
 own-long b k n e =
     let (m, q, f) = then-given (meaningOf b) (λ m. fitting 31 k (length (recipeOf m))) e in
     let (t, j, g) = then-given (judgeHead b) (λ t. andThen (walked t b every) (outOf t b)) q in
-    length-take-le (lengthIn b) b (judged b t j .lent)
+    own-whole (judged b t j)
 
 pub back-and-there : (b out buffer : List ℕ) (n : ℕ) → Bytes b → readOut b (length buffer) ≡ given n → BackAndThere b out buffer n
 unfolding built

@@ -88,6 +88,10 @@ judged b t e = by (ltb (length b) 36) e
         } in
         rw same-table at H
 
+-- so all bytes are there that its length covers
+pub own-whole : {t : Table} {b : List ℕ} → Headed t b → length (own b) ≡ lengthIn b
+own-whole {t} {b} H = length-take-le (lengthIn b) b (H .lent)
+
 front-is : (t : Table) → front t ≡ 36 + width (tail t)
 unfolding width
 front-is pptt = refl
@@ -102,9 +106,6 @@ tail-laid srat n bs h l e = lay-fields (tail srat) bs h l e
 tail-laid hmat n bs h l e = lay-fields (tail hmat) bs h l e
 
 module _ (t : Table) (b : List ℕ) (h : Bytes b) (H : Headed t b) (n : ℕ) where
-  whole : length (own b) ≡ lengthIn b
-  whole = length-take-le (lengthIn b) b (H .lent)
-
   at-least : 36 ≤ lengthIn b
   at-least = omega (arith, H .long, front-is t)
 
@@ -128,7 +129,7 @@ module _ (t : Table) (b : List ℕ) (h : Bytes b) (H : Headed t b) (n : ℕ) whe
   unfolding header part
   apart =
       let c = own b in
-      let k : 36 ≤ length c = omega (arith, whole, at-least) in
+      let k : 36 ≤ length c = omega (arith, own-whole H, at-least) in
       let f = front-is t in
       let d36 : drop 36 c ≡ lay (tail t) (told t n) ++ drop (front t) c = sym (take-append-drop (width (tail t)) (drop 36 c)) ∙ rw (tail-is, drop-drop, ← f) in
       let d10 : drop 10 c ≡ part b 10 26 ++ drop 36 c = sym (take-append-drop 26 (drop 10 c)) ∙ rw (part-take b (lengthIn b) 10 26 at-least, drop-drop 26 10 c) in
@@ -139,7 +140,7 @@ module _ (t : Table) (b : List ℕ) (h : Bytes b) (H : Headed t b) (n : ℕ) whe
       d0 ∙ (ap (λ (l : List ℕ). sign t ++ l) (d4 ∙ ap (λ (l : List ℕ). le 4 (lengthIn b) ++ l) (d8 ∙ ap (λ (l : List ℕ). at b 8 ∷ l) (d9 ∙ ap (λ (l : List ℕ). at b 9 ∷ l) (d10 ∙ ap (λ (l : List ℕ). part b 10 26 ++ l) d36)))) ∙ simp append-assoc)
 
   rest-length : front t + length (drop (front t) (own b)) ≡ lengthIn b
-  rest-length = rw (length-drop, whole) (omega (arith, H .long))
+  rest-length = rw (length-drop, own-whole H) (omega (arith, H .long))
 
   check-is : checkOf (sum (header (headIn t b) n (lengthIn b) 0 ++ drop (front t) (own b))) ≡ at b 9
   check-is =

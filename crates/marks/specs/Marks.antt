@@ -6,7 +6,12 @@ use mathlib.Core.Bool.{Bool}
 use lib.ListN.{length, set}
 use lib.Dec.{eqb, ltb, leb}
 use Rattle.format.specs.Bytes.{pick, at}
+use Rattle.format.specs.Table.{Table, front}
 use Rattle.marks.specs.declared.Mark.{Mark}
+
+-- the mark of a table's first record
+abbrev pub firstMark : Table → Mark
+firstMark t = record { nodes = 0; place = front t }
 
 -- the first shift from k on, of so many, that brings the last key below count; else the last shift
 unfoldable pub spreadOf : ℕ → ℕ → ℕ → ℕ → ℕ

@@ -3,7 +3,9 @@
 // as a shift makes one of. That a mark is right is for the pass that keeps it to say, and marks keep it right, wherever they stand.
 ghost use mathlib.Core.Path.{_≡_};
 ghost use Prim.Native.Nat.{_-_};
-ghost use Rattle.marks.specs.Marks.{spreadOf, kept, markIn, noted, under, towardNode, towardPlace};
+ghost use Rattle.format.specs.Table.{pptt};
+ghost use Rattle.marks.specs.Marks.{firstMark, spreadOf, kept, markIn, noted, under, towardNode, towardPlace};
+use header::Table;
 
 // How many marks a pass keeps: for a short table, and for a long one.
 pub const FEW: usize = 1024;
@@ -42,6 +44,16 @@ pub fn spread(n: usize, count: usize) -> u32
 }
 
 impl Mark {
+    // The first record of a PPTT.
+    pub fn first() -> Self
+        ensures { λ r. ⌜ r ≡ firstMark pptt ⌝ }
+    {
+        Self {
+            nodes: 0,
+            place: Table::PPTT_FRONT as u32,
+        }
+    }
+
     // Both numbers in one; 0 is no mark, since no record stands at 0.
     fn kept(self) -> u64
         ensures { λ r. ⌜ r ≡ kept self ⌝ }

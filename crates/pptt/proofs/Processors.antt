@@ -100,10 +100,20 @@ pub processor-fixed : (n : ℕ) (bs : List ℕ)
 unfolding layout
 processor-fixed n bs = rw (fixed-now, fixed-list (to 1) (λ x. refl), both-right)
 
--- they stand in the first 20 bytes
+-- these stand in the first 20 bytes
 pub fixed-window : (n : ℕ) (bs : List ℕ) → fixedOk (layout (processor n)) (take 20 bs) ≡ fixedOk (layout (processor n)) bs
 fixed-window n bs =
     rw (processor-fixed n (take 20 bs), processor-fixed n bs, part-take bs 20 0 1 (omega arith), part-take bs 20 1 1 (omega arith), part-take bs 20 2 2 (omega arith), part-take bs 20 16 4 (omega arith))
+
+-- what is shown of a record: its fields before the resources, and their number
+shown-now : (bs : List ℕ) → processorIn bs ≡ value (part bs 4 4) ∷ value (part bs 8 4) ∷ value (part bs 12 4) ∷ value (part bs 16 4) ∷ []
+unfolding processorIn shown layout
+shown-now bs = rw (fields-at asIs (layout (processor (value (part bs 16 4)))) bs 0)
+
+-- this too stands in the first 20 bytes
+pub shown-window : (bs : List ℕ) → processorIn (take 20 bs) ≡ processorIn bs
+shown-window bs =
+    rw (shown-now (take 20 bs), shown-now bs, part-take bs 20 4 4 (omega arith), part-take bs 20 8 4 (omega arith), part-take bs 20 12 4 (omega arith), part-take bs 20 16 4 (omega arith))
 
 fourth : (a b c d : Bool) → all (a ∷ b ∷ c ∷ d ∷ []) ≡ true → d ≡ true
 fourth a b c d h = both-true c d (both-true b (both c d) (both-true a (both b (both c d)) h .1) .1) .1

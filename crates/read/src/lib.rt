@@ -46,11 +46,13 @@ fn refers(c: &[u8], marks: &[u64], shift: u32, own: usize, v: usize, ty: u16) ->
     if own <= v {
         return false;
     }
-    let first = Mark {
-        nodes: 0,
-        place: Table::PPTT_FRONT as u32,
-    };
-    frames::starts(Table::Pptt, c, first.toward_place(marks, shift, v), v, ty)
+    frames::starts(
+        Table::Pptt,
+        c,
+        Mark::first().toward_place(marks, shift, v),
+        v,
+        ty,
+    )
 }
 
 // Whether a handle is none, or names a processor before the record at own.

@@ -20,7 +20,6 @@ use Rattle.format.specs.Node.{Node, node, nodeAt}
 use Rattle.format.specs.Read.{shown}
 use Rattle.format.specs.Field.{callsOfNode}
 use Rattle.laws.proofs.Finds.{never}
-use Rattle.laws.proofs.Bytes.{part-take}
 use Rattle.laws.proofs.Shapes.{Plain, plain-fld}
 use Rattle.laws.proofs.Fields.{length-call, fields-plain}
 use Rattle.laws.proofs.Offsets.{fields-at, node-at}
@@ -54,15 +53,6 @@ pub list-plain : (g : ℕ → ℕ) (n w : ℕ) (bs : List ℕ) (p : ℕ) → fie
 list-plain g n w bs p =
     let is = replicate n (fld w) in
     sym (fields-at g is bs p) ∙ fields-plain g asIs is (drop p bs) (plain-fld n w) ∙ fields-at asIs is bs p
-
--- what is shown of a processor stands in its first 20 bytes
-head-shown : (bs : List ℕ) → processorIn bs ≡ value (part bs 4 4) ∷ value (part bs 8 4) ∷ value (part bs 12 4) ∷ value (part bs 16 4) ∷ []
-unfolding processorIn shown layout
-head-shown bs = rw (fields-at asIs (layout (processor (value (part bs 16 4)))) bs 0)
-
-pub head-window : (bs : List ℕ) → processorIn (take 20 bs) ≡ processorIn bs
-head-window bs =
-    rw (head-shown (take 20 bs), head-shown bs, part-take bs 20 4 4 (omega arith), part-take bs 20 8 4 (omega arith), part-take bs 20 12 4 (omega arith), part-take bs 20 16 4 (omega arith))
 
 -- ---- records with a reference: the node that a record's own reading gives, under its handle's ordinal
 

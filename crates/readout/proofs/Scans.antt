@@ -1,22 +1,21 @@
 -- The walks that write and measure a table's records: what is still to come from a place on, by one record more, and where it ends.
 use mathlib.Core.Path.{_≡_, refl, sym, ap, _∙_}
-use Prim.Native.Nat.{ℕ, suc, _+_, _≤_, _<_}
+use Prim.Native.Nat.{ℕ, _+_, _≤_, _<_}
 use mathlib.Core.List.{List}
 use mathlib.Core.Bool.{Bool, true, false}
 use mathlib.Core.Option.{Option, some}
 use native.Mathlib.Omega.{arith}
-use native.Mathlib.Numerals.{add-one}
 use lib.ListN.{length, length-append, drop}
 use lib.Dec.{eqb, leb}
-use borrow.Author.Tests.{eqb-true, ne-eqb, leb-true}
+use borrow.Author.Tests.{eqb-true, leb-true}
 use Rattle.format.specs.Bytes.{value, part, refused, given, over}
 use Rattle.format.specs.Table.{Table, front, limit, revision}
 use Rattle.format.specs.Row.{Row, processors, caches, matrices, home, rowType, column, matches, rowOf}
 use Rattle.format.specs.Read.{typeIn, framed}
 use Rattle.laws.proofs.Lays.{both-true}
 use Rattle.laws.proofs.Masks.{row-then}
-use Rattle.frames.specs.Frames.{ahead, Passed, recordIn}
-use Rattle.frames.proofs.Places.{framed-then, recordAt, ahead-end, ahead-bad, ahead-next, room, numbered-next}
+use Rattle.frames.specs.Frames.{ahead, recordIn}
+use Rattle.frames.proofs.Places.{framed-then, recordAt, ahead-end, ahead-bad, ahead-next, room}
 use Rattle.readout.specs.Laid.{Laid}
 use Rattle.readout.specs.Places.{Small, ordinalAt, callsAs, isRow, callsFrom, unlessUnknown, callsAt, measured}
 use Rattle.readout.proofs.Lists.{Coming, all-coming, all-laid, come}
@@ -86,12 +85,6 @@ module _ (t : Table) (rev : ℕ) (c a : List ℕ) where
       pub writing-next : {b′ : List ℕ} {q′ : ℕ} → isRow o ≡ true → Laid b b′ q (callsAs (ordinalAt t c p) o bs) q′ → Writing b p q → Writing b′ (p + length bs) q′
       unfolding callsFrom
       writing-next u l w = rw (T .body) (come (rw (T .row, T .body) at l) (rw (ahead-next t c p (T .frame), rw (T .row) at u) at w))
-
--- the walk has come to the mark behind the record, which counts one more
-pub passed-next : {t : Table} {rev : ℕ} {c : List ℕ} {p : ℕ} {bs : List ℕ} {o : Option Row} → Turn t rev c p bs o
-    → (k : ℕ) → Passed t c (record { nodes = k; place = p }) → Passed t c (record { nodes = k + 1; place = p + length bs })
-passed-next {t} {rev} {c} {p} T k h v l =
-    h v (omega (arith, T .some)) ∙ numbered-next t c v (suc k) p (T .frame) ∙ rw (ne-eqb p v (λ z. omega (arith, T .some)), add-one, ← T .body)
 
 -- ---- the walk that measures
 

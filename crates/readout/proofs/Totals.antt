@@ -6,7 +6,6 @@ use mathlib.Core.Bool.{Bool, true, false}
 use mathlib.Core.Option.{none, some}
 use native.Mathlib.Omega.{arith}
 use lib.ListN.{length, length-append}
-use lib.Seq.{length-take-le}
 use lib.Dec.{eqb}
 use Rattle.format.specs.Bytes.{pick, Answer, refused, given, andThen, ofGiven, at, part}
 use Rattle.format.specs.Table.{Table, front, limit, revision}
@@ -14,12 +13,12 @@ use Rattle.format.specs.Row.{rowOf}
 use Rattle.format.specs.Node.{Node}
 use Rattle.format.specs.Recipe.{means}
 use Rattle.format.specs.Normal.{callsOf, headCall, recipeOf}
-use Rattle.format.specs.Read.{signed, own, lengthIn, typeIn, Frames, ended, badFrame, framedAt, Seen, judgeHead, walked, accept}
+use Rattle.format.specs.Read.{signed, own, typeIn, Frames, ended, badFrame, framedAt, Seen, judgeHead, walked, accept}
 use Rattle.format.specs.Build.{fitting, written}
 use Rattle.format.specs.Out.{every, nodesFrom, headIn, outOf, meaningOf, readOut, recipe, outWritten}
 use Rattle.laws.proofs.Bytes.{length-part}
 use Rattle.laws.proofs.Finds.{then-given}
-use Rattle.laws.proofs.Trips.{judged}
+use Rattle.laws.proofs.Trips.{judged, own-whole}
 use Rattle.header.proofs.Laws.{front-long}
 use Rattle.frames.specs.Frames.{framesOf}
 use Rattle.read.proofs.Listing.{signed-as}
@@ -115,8 +114,7 @@ refused-first b n p e = (out, λ buffer. rw (out (length buffer)))
 pub judged-sizes : (b : List ℕ) (t : Table) → judgeHead b ≡ given t → (36 ≤ length b) × (length (own b) ≤ limit)
 judged-sizes b t h =
     let J = judged b t h in
-    let l : length (own b) ≡ lengthIn b = length-take-le (lengthIn b) b (J .lent) in
-    (omega (arith, J .long, J .lent, front-long t), omega (arith, J .short))
+    (omega (arith, J .long, J .lent, front-long t), omega (arith, own-whole J, J .short))
 
 accepted-then : (b : List ℕ) (k : ℕ) → given k ≡ andThen (accept b every) (λ ss. given (length ss))
     → (t : Table) × (signed b ≡ some t) × (judgeHead b ≡ given t) × (ss : List Seen) × (walked t b every ≡ given ss)

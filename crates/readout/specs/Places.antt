@@ -10,7 +10,7 @@ use Rattle.format.specs.Bytes.{pick, Answer, refused, given, andThen, at, value
 use Rattle.format.specs.Layout.{fld, lay, fieldsWith}
 use Rattle.format.specs.Table.{Table, limit, revision}
 use Rattle.format.specs.Form.{Form, layout}
-use Rattle.format.specs.Row.{Row, processors, caches, matrices, home, rowOf, formIn}
+use Rattle.format.specs.Row.{Row, processors, caches, matrices, rowOf, formIn}
 use Rattle.format.specs.Normal.{calls, headCall}
 use Rattle.format.specs.Read.{own, typeIn, Frames, ended, badFrame, framedAt}
 use Rattle.format.specs.Build.{fitting}
@@ -56,10 +56,6 @@ unfoldable pub unlessUnknown : {A : Type 0} → Table → ℕ → A → Frames �
 unlessUnknown t rev a ended = given a
 unlessUnknown t rev a (badFrame p) = given a
 unlessUnknown t rev a (framedAt p bs rest) = pick (isRow (rowOf t rev (typeIn t bs) bs)) (unlessUnknown t rev a rest) (refused 29 p)
-
--- a row of the table
-abbrev pub Mine : Table → Option Row → Type 0
-Mine t row = (r : Row) → row ≡ some r → home r ≡ t
 
 -- no more bytes than a table has, of a processor and a cache the bytes of its fields, and of a matrix no more initiators and targets than its row allows
 pub record Small (row : Option Row) (bs : List ℕ) : Type 0 where

@@ -20,8 +20,9 @@ ghost use Rattle.header.specs.Header.{meant};
 ghost use Rattle.marks.specs.Marks.{Every};
 ghost use Rattle.frames.specs.Frames.{Passed};
 ghost use Rattle.rows.specs.Rows.{rowMeant};
+ghost use Rattle.read.specs.Places.{RowOf};
 ghost use Rattle.readout.specs.Laid.{Laid};
-ghost use Rattle.readout.specs.Places.{Mine, Small, ordinalAt, setting, callsIn, callsAs, isRow, callsAt, measured, recipeAs, outAs};
+ghost use Rattle.readout.specs.Places.{Small, ordinalAt, setting, callsIn, callsAs, isRow, callsAt, measured, recipeAs, outAs};
 ghost use Rattle.readout.specs.Answers.{measuredAs, shown, numberOf, placeOf};
 use frames::Refusal;
 use frames::Spelled;
@@ -54,11 +55,7 @@ fn ordinal(c: &[u8], marks: &[u64], shift: u32, own: usize, v: usize) -> usize
     if own <= v {
         return 0;
     }
-    let first = Mark {
-        nodes: 0,
-        place: Table::PPTT_FRONT as u32,
-    };
-    let near = first.toward_place(marks, shift, v);
+    let near = Mark::first().toward_place(marks, shift, v);
     frames::number(Table::Pptt, c, near, v)
 }
 
@@ -319,7 +316,7 @@ fn put_record(
     out: &mut [u8],
     at: usize,
 ) -> usize
-    requires { ⌜ Every (Passed (meant t) (now c)) (now marks) × Mine (meant t) (rowMeant row) × Small (rowMeant row) (now body) × (at ≤ 1500000000000000) ⌝ }
+    requires { ⌜ Every (Passed (meant t) (now c)) (now marks) × RowOf (meant t) (rowMeant row) × Small (rowMeant row) (now body) × (at ≤ 1500000000000000) ⌝ }
     ensures { λ r. ⌜ Laid (now (out .entry)) (now (out .exit)) at (callsAs (ordinalAt (meant t) (now (c .entry)) own) (rowMeant row) (now (body .entry))) r × (r ≤ at + 2000000) ⌝ }
 {
     match row {

@@ -25,7 +25,7 @@ use Rattle.laws.proofs.Grows.{View, seesProcessor, seesMatrix, seesSide, seesOt
 use Rattle.laws.proofs.Builds.{kind-home}
 use Rattle.laws.proofs.Calls.{cut-skip}
 use Rattle.laws.proofs.Settings.{table-back}
-use Rattle.laws.proofs.Links.{size-pos}
+use Rattle.laws.proofs.Links.{few-nodes}
 use Rattle.header.specs.declared.Table.the-variants.{Hmat}
 use Rattle.header.specs.Header.{meant, tableNamed}
 use Rattle.hmat.specs.Settings.{goodCell}
@@ -118,11 +118,6 @@ front-short pptt = omega arith
 front-short srat = omega arith
 front-short hmat = omega arith
 
-few : (ns : List Node) → length ns ≤ sizes ns
-unfolding sizes
-few [] = omega arith
-few (n ∷ ns) = omega (arith, few ns, size-pos (n .form))
-
 -- a refusal of a step is one of the whole
 refused-also : {A B : Type 0} (f n p : ℕ) (x : A) (b : Answer B) → refused n p ≡ unless f p (given x) → unless f p b ≡ refused n p
 refused-also f n p x b e = go (eqb f 0) e
@@ -140,7 +135,7 @@ module _ (r : List ℕ) (h : Head) where
     pub sound : Sound s
     sound =
         let l : front (h .table) + sizes (w .nodes) ≤ limit = w .short in
-        let f : length (w .nodes) ≤ sizes (w .nodes) = few (w .nodes) in
+        let f : length (w .nodes) ≤ sizes (w .nodes) = few-nodes (w .nodes) in
         rw (w .is) (record { short = l; few = omega arith })
 
     pub ends : length r ≤ p → outlined (whole r h) ≡ given (h .table, s .length)

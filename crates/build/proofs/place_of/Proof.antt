@@ -3,7 +3,8 @@ use mathlib.Core.Path.{_∙_}
 use Prim.Native.Nat.{_-_}
 use native.Mathlib.Omega.{arith}
 use borrow.Author.Needs.{needs}
-use Rattle.marks.specs.declared.Mark.{Mark}
+use Rattle.format.specs.Table.{pptt}
+use Rattle.marks.specs.Marks.{firstMark}
 use Rattle.marks.proofs.Laws.{node-keeps, node-before}
 use Rattle.build.specs.Held.{Leads}
 use Rattle.build.proofs.Walks.{hops-first, place-none, place-some}
@@ -21,8 +22,7 @@ reached-requires c κs =
     let a = s .args in
     let i = a .ordinal - 1 in
     let out = a .out .now in
-    let first : Mark = record { nodes = 0; place = 36 } in
-    rw (c .toward-node .ensures, c .before .first .ensures) (node-before first (a .shift) i (a .marks .now) (omega arith), node-keeps (Leads out) first (a .shift) i (a .marks .now) (omega arith, hops-first out) (s .pre (c .before .before .if1 .left)))
+    rw (c .toward-node .ensures, c .before .first .ensures) (node-before (firstMark pptt) (a .shift) i (a .marks .now) (omega arith), node-keeps (Leads out) (firstMark pptt) (a .shift) i (a .marks .now) (omega arith, hops-first out) (s .pre (c .before .before .if1 .left)))
 
 returns-2 : tie.Need-returns-2
 returns-2 c =

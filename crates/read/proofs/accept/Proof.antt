@@ -4,13 +4,12 @@ use Prim.Native.Nat.{ℕ, _≤_}
 use mathlib.Core.List.{List}
 use native.Mathlib.Omega.{arith}
 use lib.ListN.{length}
-use lib.Seq.{length-take-le}
 use borrow.Author.Needs.{needs}
 use Rattle.format.specs.Bytes.{given}
 use Rattle.format.specs.Table.{Table, limit}
-use Rattle.format.specs.Read.{own, lengthIn, judgeHead, walked, accept}
+use Rattle.format.specs.Read.{own, judgeHead, walked, accept}
 use Rattle.laws.proofs.Bytes.{value-byte}
-use Rattle.laws.proofs.Trips.{judged}
+use Rattle.laws.proofs.Trips.{judged, own-whole}
 use Rattle.read.proofs.accept.Statement.{statement}
 use Rattle.read.proofs.accept.Tie as tie
 
@@ -18,8 +17,7 @@ use Rattle.read.proofs.accept.Tie as tie
 judged-short : (b : List ℕ) (t : Table) → judgeHead b ≡ given t → length (own b) ≤ limit
 judged-short b t h =
     let J = judged b t h in
-    let l : length (own b) ≡ lengthIn b = length-take-le (lengthIn b) b (J .lent) in
-    omega (arith, J .short)
+    omega (arith, own-whole J, J .short)
 
 scan-requires : tie.Need-scan-requires
 scan-requires c κs =

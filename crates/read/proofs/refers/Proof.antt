@@ -16,9 +16,10 @@ returns-2 : tie.Need-returns-2
 unfolding refers
 returns-2 c =
     let m = c .before in
-    let s = m .before .before .before .before in
+    let f = m .before in
+    let s = f .before .before .before .before in
     let a = s .args in
-    rw (lt-ltb _ _ (m .before .if1 .left)) (c .starts .ensures ∙ rw (m .toward-place .ensures) (sym (near-named pptt (a .c .now) (a .marks .now) (a .shift) (a .v) (s .pre) (a .ty))))
+    rw (lt-ltb _ _ (f .before .if1 .left)) (c .starts .ensures ∙ rw (m .toward-place .ensures, f .first .ensures) (sym (near-named pptt (a .c .now) (a .marks .now) (a .shift) (a .v) (s .pre) (a .ty))))
 
 pub refers-spec : {M : Type 1} → statement M
-refers-spec = tie.close (tie.spec returns (λ c. search needs) (λ c κs. search needs) (λ c κs. search needs) returns-2)
+refers-spec = tie.close (tie.spec returns (λ c κs. search needs) (λ c κs. search needs) (λ c κs. search needs) returns-2)

@@ -16,9 +16,10 @@ returns-2 : tie.Need-returns-2
 unfolding ordinalAt
 returns-2 c =
     let m = c .before in
-    let s = m .before .before .before .before in
+    let f = m .before in
+    let s = f .before .before .before .before in
     let a = s .args in
-    rw (lt-ltb _ _ (m .before .if1 .left)) ((rw (m .toward-place .ensures) at (c .number .ensures)) ∙ sym (near-number pptt (a .c .now) (a .marks .now) (a .shift) (a .v) (s .pre)))
+    rw (lt-ltb _ _ (f .before .if1 .left)) ((rw (m .toward-place .ensures, f .first .ensures) at (c .number .ensures)) ∙ sym (near-number pptt (a .c .now) (a .marks .now) (a .shift) (a .v) (s .pre)))
 
 pub ordinal-spec : {M : Type 1} → statement M
-ordinal-spec = tie.close (tie.spec returns (λ c. search needs) (λ c κs. search needs) (λ c κs. search needs) returns-2)
+ordinal-spec = tie.close (tie.spec returns (λ c κs. search needs) (λ c κs. search needs) (λ c κs. search needs) returns-2)

@@ -13,9 +13,10 @@ use Rattle.format.specs.Kind.{Processor, body}
 use Rattle.format.specs.Normal.{calls}
 use Rattle.laws.proofs.Fields.{length-call}
 use Rattle.pptt.specs.declared.ProcessorHandle.{ProcessorHandle}
+use Rattle.pptt.proofs.Processors.{shown-window}
 use Rattle.readout.specs.Places.{ordinalAt}
 use Rattle.readout.proofs.Lists.{put-laid, laid-on}
-use Rattle.readout.proofs.Records.{calls-at, head-window, processor-named}
+use Rattle.readout.proofs.Records.{calls-at, processor-named}
 use Rattle.readout.proofs.put_processor.Statement.{statement}
 use Rattle.readout.proofs.put_processor.Tie as tie
 
@@ -61,7 +62,7 @@ returns c =
     let j = rw (m .named .ensures) at (v .put-body .ensures .1) in
     let h = ap (λ (x : ProcessorHandle). x .0) (o .processor-ordinal .ensures) in
     let f = ordinalAt pptt (s .args .c .now) (s .args .own) in
-    (rw (calls-at, ← n .resources-in .ensures) (laid-on (put-laid w j (processor-named f b (g .get .result) (o .processor-ordinal .result) (n .resources-in .result) (g .get .ensures ∙ head-window b) h)) (x .put-resources .ensures .0)), omega arith)
+    (rw (calls-at, ← n .resources-in .ensures) (laid-on (put-laid w j (processor-named f b (g .get .result) (o .processor-ordinal .result) (n .resources-in .result) (g .get .ensures ∙ shown-window b) h)) (x .put-resources .ensures .0)), omega arith)
 
 pub put-processor-spec : {M : Type 1} → statement M
 put-processor-spec =

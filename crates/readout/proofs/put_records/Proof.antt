@@ -1,6 +1,7 @@
 -- `put_records` meets its contract. The invariant: what is still to come from here on, and marks that the walk has come to, as it has here.
 use mathlib.Core.Path.{_≡_, refl, sym, ap, _∙_}
 use Prim.Native.Nat.{_-_, _+_, _*_, _≤_}
+use native.Mathlib.Numerals.{add-one}
 use native.Mathlib.Omega.{arith}
 use borrow.Author.Needs.{needs}
 use borrow.Author.Tests.{not-true, not-false}
@@ -11,8 +12,9 @@ use Rattle.laws.proofs.Masks.{row-home}
 use Rattle.marks.specs.Marks.{noted, Every}
 use Rattle.marks.proofs.Laws.{noted-keeps}
 use Rattle.frames.specs.Frames.{Passed}
+use Rattle.frames.proofs.Marks.{passed-next}
 use Rattle.rows.specs.Rows.{rowMeant}
-use Rattle.readout.proofs.Scans.{Writing, writing-start, writing-end, writing-bad, writing-unknown, writing-next, passed-next, small-record, Turn, turns}
+use Rattle.readout.proofs.Scans.{Writing, writing-start, writing-end, writing-bad, writing-unknown, writing-next, small-record, Turn, turns}
 use Rattle.readout.proofs.put_records.Statement.{statement}
 use Rattle.readout.proofs.put_records.Tie as tie
 
@@ -99,7 +101,7 @@ loop-again c =
       omega (arith, T .some),
       search needs,
       writing-next _ _ _ _ T (sym (e .before .is-known .ensures) ∙ not-false _ (e .if2 .left)) (v .put-record .ensures .0) (l .loop .inv .3),
-      passed-next T (l .loop .count) (l .loop .inv .4),
+      rw (add-one, T .body) (passed-next _ _ (l .loop .count) (l .loop .p) (T .frame) (l .loop .inv .4)),
       rw (n .note .ensures) (marked k),
     )
 
