@@ -18,17 +18,19 @@
 extern "C" {
 #endif
 
-/* What a call refuses; beside each what place is then. */
+/* What a call refuses; beside each what place is then. A reference is refused by 6 if it names no node before its own, 0 where none is
+ * allowed too, and by 10 if it names an earlier node of the other kind; 10 is looked for between 6 and 7. */
 enum acpi_refusal {
     ACPI_NO_HEAD = 1,    /* 0 */
-    ACPI_BAD_KIND = 2,   /* 2 to 8: where the faulty record begins in the recipe */
+    ACPI_BAD_KIND = 2,   /* 2 to 8 and 10, but for 5: where the faulty record begins in the recipe */
     ACPI_CUT = 3,
     ACPI_MISPLACED = 4,
-    ACPI_BAD_FIELD = 5,
-    ACPI_BAD_REF = 6,
+    ACPI_BAD_FIELD = 5,  /* where the first bad field of the faulty record begins in the recipe */
+    ACPI_FORWARD = 6,
     ACPI_FULL_NODE = 7,
     ACPI_TOO_LONG = 8,
     ACPI_NO_ROOM = 9,    /* the length of the table */
+    ACPI_WRONG_KIND = 10,
 
     ACPI_SHORT = 20,     /* 20 to 24: 0 */
     ACPI_BAD_SIGN = 21,
@@ -85,10 +87,10 @@ enum acpi_answer {
 /* The longest table. */
 #define ACPI_LIMIT 1048576u
 
-/* Builds the table of a recipe into out. Refuses 1 to 9; place gets the table's length. */
+/* Builds the table of a recipe into out. Refuses 1 to 10; place gets the table's length. */
 uint32_t acpi_build(const uint8_t *recipe, size_t recipe_len, uint8_t *out, size_t out_len, size_t *place);
 
-/* Judges a recipe: what acpi_build would answer with room for the table. Refuses 1 to 8; place gets the table's length. */
+/* Judges a recipe: what acpi_build would answer with room for the table. Refuses 1 to 8 and 10; place gets the table's length. */
 uint32_t acpi_check(const uint8_t *recipe, size_t recipe_len, size_t *place);
 
 /* Writes the recipe of a table, in its normal form, into out. Refuses 20 to 27 and 29 to 31; place gets the recipe's length. */

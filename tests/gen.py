@@ -234,70 +234,82 @@ def rand_record(R, t):
     return bytes([54]) + by(num(R, 2), 2)
 
 
+def or_one(at, *values):
+    """ways to make the field at this byte bad: a bit or two more"""
+    return [((at, 0, v),) for v in values]
+
+
+def set_one(at, *values):
+    """ways to make the field at this byte bad: another value"""
+    return [((at, 255, v),) for v in values]
+
+
+def not_given(bit, at, width):
+    """ways to make a cache's field bad: a byte of it that is not 0, and its flag off"""
+    return [((1, bit, 0), (at + i, 0, v)) for v in (1, 128) for i in range(width)]
+
+
+# kind: for each of its fields that have a rule, in body order, the ways to make it bad: bytes of the record, bits off, bits on
+SPOILS = {
+    1: [set_one(1, 3, 4, 255)],
+    18: [not_given(1, 6, 4), not_given(2, 10, 4), not_given(4, 14, 1),
+         or_one(15, 32, 64, 128)                                            # the rest 0
+         + [((1, 0, 8), (15, 0, 3)), ((1, 8, 0), (15, 3, 1)), ((1, 8, 0), (15, 3, 2))]          # allocation
+         + [((1, 0, 16), (15, 0, 12)), ((1, 16, 0), (15, 12, 4)), ((1, 16, 0), (15, 12, 8))]    # type
+         + [((1, 32, 0), (15, 0, 16))],                                     # policy
+         not_given(64, 16, 2), not_given(128, 18, 4)],
+    32: [or_one(21, 8, 16, 32, 64, 128)],
+    33: [or_one(17, 4, 8, 16, 32, 64, 128)],
+    34: [or_one(8, 32, 64, 128), or_one(9, 8, 16, 32, 64, 128), or_one(10, 4, 8, 16, 32, 64, 128)],
+    35: [or_one(5, 2, 4, 8, 16, 32, 64, 128)],
+    49: [or_one(1, 4, 8, 64, 128), set_one(2, 6, 7, 8, 255), set_one(3, 12, 13, 16, 255)],
+    50: [set_one(1, 2, 3, 4, 5, 6, 255)],
+    51: [set_one(1, 3, 2, 4, 5, 6, 255)],
+    52: [set_one(1, 2, 3, 4, 5, 6, 255), set_one(2, 3, 2, 4, 5, 6, 255)],
+    53: [or_one(13, 4, 8, 64, 128) + or_one(14, 3, 4, 8, 48, 64, 128)],     # both levels, associativity and policy
+}
+
+
+def spoiled(rec, ways):
+    b = bytearray(rec)
+    for way in ways:
+        for at, off, on in way:
+            b[at] = b[at] & ~off | on
+    return bytes(b)
+
+
 def spoil_field(R, rec):
-    """a record with a field outside its rules, if the kind has one"""
-    b = bytearray(rec)
-    k = b[0]
-    if k == 18:
-        c = R.randrange(4)
-        if c == 0:
-            b[1] = 255
-            b[15] = R.choice([3, 12, 15, 32, 64, 128, 0x0B, 0x23])
-        elif c == 1:      # a bit off, the part not 0
-            i = R.randrange(8)
-            b[1] &= 255 ^ (1 << i)
-            at = {0: 6, 1: 10, 2: 14, 6: 16, 7: 18}
-            if i in at:
-                w = {0: 4, 1: 4, 2: 1, 6: 2, 7: 4}[i]
-                b[at[i] + R.randrange(w)] = R.choice([1, 128, 255])
-            else:
-                b[15] = {3: R.choice([1, 2]), 4: R.choice([4, 8]), 5: 16}[i]
-        elif c == 2:
-            b[1] = 0
-            b[6 + R.randrange(16)] = R.choice([1, 255])
-        else:
-            b[15] = R.randrange(256)
-    elif k == 32:
-        b[-1] = R.choice([8, 9, 16, 255, 128])
-    elif k == 33:
-        b[-1] = R.choice([4, 5, 8, 255])
-    elif k == 34:
-        c = R.randrange(3)
-        if c == 0:
-            b[8] = R.choice([32, 33, 255])
-        elif c == 1:
-            b[9] = R.choice([8, 9, 255])
-        else:
-            b[10] = R.choice([4, 7, 255])
-    elif k == 35:
-        b[5] = R.choice([2, 3, 128, 255])
-    elif k == 49:
-        c = R.randrange(3)
-        if c == 0:
-            b[1] = R.choice([4, 8, 12, 64, 128, 255, R.randrange(256)])
-        elif c == 1:
-            b[2] = R.choice([6, 7, 255])
-        else:
-            b[3] = R.choice([12, 13, 255])
-    elif k in (50, 51):
-        b[1] = R.choice([b[1] + 1 & 255, b[1] + 2 & 255, 255, 6, 5, 4])
-    elif k == 52:
-        i = R.choice([1, 2])
-        b[i] = R.choice([b[i] + 1 & 255, b[i] + 2 & 255, 255, 6, 5, 4])
-    elif k == 53:
-        i = R.choice([13, 13, 14, 14])
-        b[i] = (R.choice([4, 0x40, 15, 0xF0, 8, 0x80]) if i == 13 else R.choice([3, 0x30, 15, 0xF0, 8, 0x80, 0x33]))
-    return bytes(b)
-
-
-def spoil_ref(R, rec, own):
-    b = bytearray(rec)
-    at = {16: 5, 17: 1, 18: 2}.get(b[0])
-    if at is None:
+    """a record with one to three fields outside their rules, if the kind has such"""
+    if not rec or len(rec) != 1 + BODY.get(rec[0], -1) or rec[0] not in SPOILS:
         return rec
-    v = R.choice([own, own + 1, own - 1, max(own - 2, 0), 0, 1, 2, 3, own + 256, 256, 1 << 24, 0xFFFFFFFF, 65536 + 1])
-    b[at:at + 4] = by(v & 0xFFFFFFFF, 4)
-    return bytes(b)
+    if rec[0] == 18 and R.random() < .2:      # other flags for the fields that there are
+        return rec[:1] + bytes([R.choice([0, R.randrange(256)])]) + rec[2:]
+    fields = SPOILS[rec[0]]
+    return spoiled(rec, [R.choice(ways) for ways in R.sample(fields, min(len(fields), R.choice([1, 1, 2, 3])))])
+
+
+REF = {16: 5, 17: 1, 18: 2}         # where a record's reference stands
+NAMED = {16: 16, 17: 18, 18: 18}   # the kind that it names
+
+
+def with_ref(rec, ref):
+    at = REF[rec[0]]
+    return rec[:at] + by(ref, 4) + rec[at + 4:]
+
+
+def spoil_ref(R, rec, own, kinds):
+    """a record with another reference; own is its ordinal, kinds those of all nodes"""
+    if not rec or rec[0] not in REF:
+        return rec
+    others = [n + 1 for n, k in enumerate(kinds[:max(own - 1, 0)]) if k != NAMED[rec[0]]]
+    if others and R.random() < .5:
+        return with_ref(rec, R.choice(others))
+    return with_ref(rec, R.choice([own, own + 1, max(own - 1, 0), max(own - 2, 0), len(kinds), 0, 1, 2, 3, own + 256, 256, 1 << 24,
+                                   0xFFFFFFFF, 65536 + 1]))
+
+
+def node_kinds(recs):
+    return [r[0] for r in recs if r and r[0] in (16, 18)]
 
 
 def ordinals(recs):
@@ -312,7 +324,7 @@ def ordinals(recs):
 def damage_recipe(R, t, h, recs):
     """one damage on the head and the list of records; gives (h, recs) or bytes"""
     recs = list(recs)
-    c = R.randrange(19)
+    c = R.randrange(20)
     i = R.randrange(len(recs)) if recs else 0
     if c == 0:      # any byte of a record
         if recs:
@@ -348,14 +360,12 @@ def damage_recipe(R, t, h, recs):
             withref = [j for j, r in enumerate(recs) if r and r[0] in (16, 17, 18)]
             if withref:
                 i = R.choice(withref)
-            recs[i] = spoil_ref(R, recs[i], ordinals(recs)[i])
+            recs[i] = spoil_ref(R, recs[i], ordinals(recs)[i], node_kinds(recs))
     elif c == 13:   # table code, or the first byte
-        b = bytearray(h)
         if R.random() < .6:
-            b[1] = R.choice([3, 4, 255, 128, (t + 1) % 3])
+            h = h[:1] + bytes([R.choice([3, 4, 255, 128, (t + 1) % 3])]) + h[2:]
         else:
-            b[0] = R.choice([0, 2, 16, 17, 48, 255, 32])
-        h = bytes(b)
+            h = bytes([R.choice([0, 2, 16, 17, 48, 255, 32])]) + h[1:]
     elif c == 14 and len(recs) > 1:   # swap
         j = R.randrange(len(recs))
         recs[i], recs[j] = recs[j], recs[i]
@@ -365,6 +375,11 @@ def damage_recipe(R, t, h, recs):
         recs.insert(i, recs[i])
     elif c == 17:
         return h[:R.randrange(29)]
+    elif c == 18:                     # fields and reference of one cache
+        caches = [j for j, r in enumerate(recs) if r and r[0] == 18]
+        if caches:
+            i = R.choice(caches)
+            recs[i] = spoil_ref(R, spoil_field(R, recs[i]), ordinals(recs)[i], node_kinds(recs))
     else:
         whole = bytearray(h + b''.join(recs))
         for _ in range(R.choice([1, 1, 2, 3])):
@@ -375,12 +390,16 @@ def damage_recipe(R, t, h, recs):
 
 def full_recipe(R, n):
     """n resources on one processor, perhaps with things before and after"""
-    r = head(R, 0) + g_cache(R, 0) + (g_cache(R, 1) if R.random() < .5 else b'')
-    r += g_proc(R, 0)
+    before = [g_cache(R, 0)] + R.choice([[], [g_cache(R, 1)], [g_proc(R, 0)], [g_proc(R, 0), g_cache(R, 1)]])
+    own = len(before) + 1
+    r = head(R, 0) + b''.join(before) + g_proc(R, 0)
     for j in range(n):
         r += g_res(R, 1)
-    if R.random() < .4:
-        r += R.choice([g_proc(R, 0), g_cache(R, 1), g_res(R, 0), g_res(R, 9), b'\x11\x01', g_res(R, 1)])
+    if R.random() < .5:     # one more, of which the reference may be bad too; or another record, good or bad
+        r += R.choice([g_res(R, ref) for ref in (0, 1, 2, 2, own, own + 1, 9)]
+                      + [g_proc(R, 0), g_proc(R, 1), g_cache(R, 1), g_cache(R, own), spoil_field(R, g_cache(R, own)), b'\x11\x01'])
+        if R.random() < .3:
+            r += R.choice([g_cache(R, 0), g_res(R, 1), g_res(R, 0)])
     return r
 
 
@@ -428,13 +447,25 @@ def long_recipe(R):
     recs.append(g_matrix(R, I, T))
     R.shuffle(recs)
     r += b''.join(recs)
-    r += R.choice([b'', b'', bytes([50, 0]) + by(7, 4), bytes([54]) + by(3, 2), g_side(R), bytes([48]) + bytes(8), b'\x30', bytes([49, 4]) + bytes(12)])
+    r += R.choice([b'', b'', bytes([50, 0]) + by(7, 4), bytes([54]) + by(3, 2), g_side(R), bytes([48]) + bytes(8), b'\x30', bytes([49, 4]) + bytes(12),
+                   spoil_field(R, g_matrix(R, 255, 255)), spoil_field(R, g_side(R)), spoil_field(R, bytes([52, 0, 0, 7, 0]))])
     return r
+
+
+def long_pptt(R):
+    """a PPTT of 1,048,564 bytes, in which three resources have room yet, and records of every sort behind it"""
+    r = head(R, 0) + g_proc(R, 0) + (bytes([18]) + bytes(21)) * 37446 + g_proc(R, 1) + g_res(R, 2) * R.choice([0, 2, 3, 3])
+    own = 37449
+    refs = [0, 1, 2, own - 1, own, own + 1]
+    return r + R.choice([g_res(R, ref) for ref in refs] + [g_proc(R, ref) for ref in refs] + [g_cache(R, ref) for ref in refs]
+                        + [spoil_field(R, g_cache(R, ref)) for ref in refs])
 
 
 def recipe(R):
     if R.random() < .0003:
         return handles_recipe(R)
+    if R.random() < .0003:
+        return long_pptt(R)
     c = R.random()
     if c < .01:
         return R.choice([b'', b'\x01', bytes([R.randrange(256)]), b'\x01\x03', bytes(28), bytes([1, 3]) + bytes(26)])
@@ -452,6 +483,39 @@ def recipe(R):
             return x
         h, recs = x
     return h + b''.join(recs)
+
+
+def every_fault(rec):
+    """the record with every set of its fields bad, and each field in all its ways"""
+    for some in range(1, 1 << len(SPOILS[rec[0]])):
+        fields = [ways for i, ways in enumerate(SPOILS[rec[0]]) if some >> i & 1]
+        for way in range(max(map(len, fields))):
+            yield spoiled(rec, [ways[way % len(ways)] for ways in fields])
+
+
+def faults():
+    """small recipes with one bad record: every set of bad fields of each kind, with references good and bad; every sort of reference"""
+    heads = [bytes([1, t]) + bytes(26) for t in range(3)]
+    cache, processor, resource = bytes([18]) + bytes(21), bytes([16]) + bytes(12), bytes([17]) + bytes(4)
+    nodes = heads[0] + cache + processor     # nodes 1 and 2, and the record behind them is node 3
+    yield from every_fault(heads[0])
+    for full in (cache, bytes([18, 255]) + bytes(4) + bytes([1] * 9 + [0] + [1] * 6)):
+        for ref in (0, 1, 2, 3):
+            for bad in every_fault(full):
+                yield nodes + with_ref(bad, ref)
+    for ref in (0, 1, 2, 3, 4, 5, 257, 1 << 24, 2 ** 32 - 1):
+        for before, rec in ((b'', cache), (b'', processor), (processor, resource), (processor + with_ref(resource, 1) * 58, resource)):
+            yield nodes + before + with_ref(rec, ref) + cache
+    for rec in [bytes([k]) + bytes(BODY[k]) for k in KINDS[1]]:
+        for bad in every_fault(rec):
+            yield heads[1] + bad
+    matrix = bytes([49]) + bytes(11) + bytes([2, 3])
+    for rec in [matrix, bytes([53]) + bytes(16)]:
+        for bad in every_fault(rec):
+            yield heads[2] + bad
+    for k in (50, 51, 52):
+        for bad in every_fault(bytes([k]) + bytes(BODY[k])):
+            yield heads[2] + matrix + bad
 
 
 def outside(recipe):
@@ -650,16 +714,19 @@ def mask(R):
 if __name__ == '__main__':
     from collections import Counter
     R = random.Random(1)
-    cb, cr, co, places = Counter(), Counter(), Counter(), {}
+    cb, cr, co, places, words = Counter(), Counter(), Counter(), {}, Counter()
     szs = []
-    for i in range(3200):
-        r = recipe(R)
+    few = list(faults())
+    for i in range(3200 + len(few)):
+        r = few[i - 3200] if i >= 3200 else recipe(R)
         a = build(r, 10 ** 7)
         room = R.choice([a[1] - 1, a[1], a[1] + 5, 0, 10**7]) if a[0] == 'given' else 1000
         a = build(r, max(room, 0))
         cb[a[1] if a[0] == 'refused' else 0] += 1
         if a[0] == 'refused':
             places.setdefault(a[1], set()).add(a[2])
+        if a[:2] == ('refused', 5):
+            words[named(r, a[2]).split(' at ')[0]] += 1
         if a[0] == 'given' and a[1] < 100000:
             t = table(r)
             assert recipe_of(t) == normal(r), r.hex()
@@ -667,6 +734,7 @@ if __name__ == '__main__':
             assert read_out(t, 10 ** 7)[0] == 'given'
         szs.append(len(r))
     print('build', sorted(cb.items()), sum(szs) / len(szs), max(szs))
+    print('fields', sorted(words.items()))
     szs = []
     for i in range(3200):
         t = lent_table(R)

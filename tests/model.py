@@ -1,4 +1,4 @@
-"""A reading of document 01 in another language: pure functions on bytes, sharing no code with the crates."""
+"""A reading of documents 01 and 02 in another language: pure functions on bytes, sharing no code with the crates. Of document 02: order 1."""
 LIMIT = 1 << 20
 NAMES = (b'PPTT', b'SRAT', b'HMAT')
 FRONT = (36, 48, 40)
@@ -29,26 +29,53 @@ def table_of_kind(k):
 
 # ---------------------------------------------------------------- field rules
 
-def cache_attr_ok(a):
-    return a >> 5 == 0 and (a & 3) <= 2 and (a >> 2 & 3) <= 2
-
-
-def cache_ok(flags, size, sets, assoc, attr, line, ident):
-    """flags: 8 bits. A field whose bit is off is 0."""
-    if flags > 255:
-        return False
-    if not cache_attr_ok(attr):
-        return False
-    parts = (size, sets, assoc, attr & 3, attr >> 2 & 3, attr >> 4 & 1, line, ident)
-    return all(v == 0 or flags >> i & 1 for i, v in enumerate(parts))
-
-
-def matrix_ok(flags, dt, ts):
-    return flags & ~0x33 == 0 and dt <= 5 and ts <= 11
+def cache_attr_ok(a, on):
+    """on: whether allocation, type and policy are given"""
+    parts = a & 3, a >> 2 & 3, a >> 4 & 1
+    return a >> 5 == 0 and parts[0] <= 2 and parts[1] <= 2 and all(v == 0 or f for v, f in zip(parts, on))
 
 
 def side_ok(a):
     return (a & 15) <= 3 and (a >> 4 & 15) <= 3 and (a >> 8 & 15) <= 2 and (a >> 12 & 15) <= 2
+
+
+def rules(r, last=None):
+    """the fields of a record that have a rule, in body order: where each begins in the record r, whose kind byte is at 0, and
+    whether it is good; last is the matrix that a value or a cell joins"""
+    k = r[0]
+    if k == 1:
+        return [(1, r[1] <= 2)]
+    if k == 18:      # a field whose bit is off is 0
+        on = [r[1] >> i & 1 for i in range(8)]
+        return [(6, on[0] or le(r[6:10]) == 0),
+                (10, on[1] or le(r[10:14]) == 0),
+                (14, on[2] or r[14] == 0),
+                (15, cache_attr_ok(r[15], on[3:6])),
+                (16, on[6] or le(r[16:18]) == 0),
+                (18, on[7] or le(r[18:22]) == 0)]
+    if k == 32:
+        return [(21, r[21] <= 7)]
+    if k == 33:
+        return [(17, r[17] <= 3)]
+    if k == 34:
+        return [(8, r[8] <= 31), (9, r[9] <= 7), (10, r[10] <= 3)]
+    if k == 35:
+        return [(5, r[5] <= 1)]
+    if k == 49:
+        return [(1, r[1] & ~0x33 == 0), (2, r[2] <= 5), (3, r[3] <= 11)]
+    if k == 50:
+        return [(1, r[1] < last['I'])]
+    if k == 51:
+        return [(1, r[1] < last['T'])]
+    if k == 52:
+        return [(1, r[1] < last['I']), (2, r[2] < last['T'])]
+    if k == 53:
+        return [(13, side_ok(le(r[13:17])))]
+    return []
+
+
+def good(r):
+    return all(fine for _, fine in rules(r))
 
 
 # ---------------------------------------------------------------- build
@@ -67,16 +94,29 @@ def cut(b, *sizes):
     return out
 
 
+def judge_fields(r, p, last=None):
+    """5 at the first bad field of the record r, which begins at p"""
+    for at, fine in rules(r, last):
+        if not fine:
+            raise Stop(5, p + at)
+
+
+def judge_ref(ref, kind, own, nodes, p):
+    """6 and 10: a reference, where 0 is not allowed, to a node of this kind below the ordinal own, in the record at p"""
+    if ref == 0 or ref >= own:
+        raise Stop(6, p)
+    if nodes[ref - 1]['kind'] != kind:
+        raise Stop(10, p)
+
+
 def parse(r):
     """recipe -> (table code, head bytes, nodes); nodes: dicts. Raises Stop."""
     if len(r) == 0 or r[0] != 1:
         raise Stop(1, 0)
     if len(r) < 28:
         raise Stop(3, 0)
-    t = r[1]
-    if t > 2:
-        raise Stop(5, 0)
-    head = r[2:28]
+    judge_fields(r[:28], 0)
+    t, head = r[1], r[2:28]
     nodes = []
     total = FRONT[t]
     p = 28
@@ -97,55 +137,41 @@ def parse(r):
             raise Stop(4, p)
         last = nodes[-1] if nodes else None
         own = len(nodes) + 1      # ordinal of the node to come
-
-        def good(ref, kind, own):
-            return 1 <= ref < own and nodes[ref - 1]['kind'] == kind
-
+        judge_fields(r[p:e], p, last)
         grow = 0
         new = None
         if k == 16:
             flags, parent, ident = cut(b, 4, 4, 4)
-            if parent != 0 and not good(parent, 16, own):
-                raise Stop(6, p)
+            if parent != 0:
+                judge_ref(parent, 16, own, nodes, p)
             new = dict(kind=16, flags=flags, parent=parent, id=ident, res=[])
             grow = 20
         elif k == 17:
             (ref,) = cut(b, 4)
-            if not good(ref, 18, own - 1):
-                raise Stop(6, p)
+            judge_ref(ref, 18, own - 1, nodes, p)     # its own ordinal is its processor's
             if len(last['res']) >= 58:
                 raise Stop(7, p)
             grow = 4
         elif k == 18:
-            flags, nxt, size, sets, assoc, attr, line, ident = cut(b, 1, 4, 4, 4, 1, 1, 2, 4)
-            if not cache_ok(flags, size, sets, assoc, attr, line, ident):
-                raise Stop(5, p)
-            if nxt != 0 and not good(nxt, 18, own):
-                raise Stop(6, p)
+            flags, nxt = cut(b[:5], 1, 4)
+            if nxt != 0:
+                judge_ref(nxt, 18, own, nodes, p)
             new = dict(kind=18, flags=flags, next=nxt, rest=b[5:])
             grow = 28
         elif k == 32:
             dom, base, length, flags = cut(b, 4, 8, 8, 1)
-            if flags > 7:
-                raise Stop(5, p)
             new = dict(kind=32, dom=dom, base=base, length=length, flags=flags)
             grow = 40
         elif k == 33:
             dom, hid, uid, flags = cut(b, 4, 8, 4, 1)
-            if flags > 3:
-                raise Stop(5, p)
             new = dict(kind=33, dom=dom, hid=hid, uid=uid, flags=flags)
             grow = 32
         elif k == 34:
             dom, seg, bus, dev, fun, flags = cut(b, 4, 2, 1, 1, 1, 1)
-            if dev > 31 or fun > 7 or flags > 3:
-                raise Stop(5, p)
             new = dict(kind=34, dom=dom, seg=seg, bus=bus, dev=dev, fun=fun, flags=flags)
             grow = 32
         elif k == 35:
             uid, flags, clock = cut(b, 4, 1, 4)
-            if flags > 1:
-                raise Stop(5, p)
             new = dict(kind=35, uid=uid, flags=flags, clock=clock)
             grow = 16
         elif k == 48:
@@ -154,23 +180,15 @@ def parse(r):
             grow = 40
         elif k == 49:
             flags, dt, ts, unit, I, T = cut(b, 1, 1, 1, 8, 1, 1)
-            if not matrix_ok(flags, dt, ts):
-                raise Stop(5, p)
             new = dict(kind=49, flags=flags, dt=dt, ts=ts, unit=unit, I=I, T=T,
                        iv={}, tv={}, cells={})
             grow = 32 + 4 * I + 4 * T + 2 * I * T
         elif k in (50, 51):
             idx, val = cut(b, 1, 4)
-            if idx >= last['I' if k == 50 else 'T']:
-                raise Stop(5, p)
         elif k == 52:
             i, t2, val = cut(b, 1, 1, 2)
-            if i >= last['I'] or t2 >= last['T']:
-                raise Stop(5, p)
         elif k == 53:
             dom, size, attr = cut(b, 4, 8, 4)
-            if not side_ok(attr):
-                raise Stop(5, p)
             new = dict(kind=53, dom=dom, size=size, attr=attr, hs=[])
             grow = 32
         elif k == 54:
@@ -364,9 +382,8 @@ def fields_of(row, b):
         z, flags, parent, ident, c = (le(b[2:4]), le(b[4:8]), le(b[8:12]), le(b[12:16]), le(b[16:20]))
         return z == 0 and n == 20 + 4 * c, [flags, parent, ident, c]
     if row == 1:
-        z, flags, nxt, size, sets, assoc, attr, line, ident = cut(b[2:], 2, 4, 4, 4, 4, 1, 1, 2, 4)
-        return (z == 0 and cache_ok(flags, size, sets, assoc, attr, line, ident),
-                [flags, nxt, size, sets, assoc, attr, line, ident])
+        z, flags, *rest = cut(b[2:], 2, 4, 4, 4, 4, 1, 1, 2, 4)
+        return z == 0 and flags <= 255 and good(bytes([18, b[4]]) + b[8:]), [flags] + rest
     if row == 2:
         dom, z1, base, length, z2, flags, z3 = cut(b[2:], 4, 2, 8, 8, 4, 4, 8)
         return z1 == z2 == z3 == 0 and flags <= 7, [dom, base, length, flags]
@@ -389,7 +406,7 @@ def fields_of(row, b):
         return z0 == 0 and f == 1 and z == 0 and z2 == 0, [ini, mem]
     if row == 6:
         flags, dt, ts, z, I, T, z2, unit = cut(b[8:32], 1, 1, 1, 1, 4, 4, 4, 8)
-        ok = (z0 == 0 and z == 0 and z2 == 0 and matrix_ok(flags, dt, ts)
+        ok = (z0 == 0 and z == 0 and z2 == 0 and good(b'\x31' + b[8:11])
               and n == 32 + 4 * I + 4 * T + 2 * I * T)
         return ok, [flags, dt, ts, I, T, unit]
     if row == 7:
@@ -557,6 +574,49 @@ def out_written(lent, buf):
     if a[0] == 'refused':
         return bytes(buf)
     return recipe_of(lent) + bytes(buf[a[1]:])
+
+
+# ---------------------------------------------------------------- a field in words
+
+# kind: the record's name, and its fields with their bytes
+WORDS = {
+    1: ('head', 'table code 1, OEM ID 6, OEM table ID 8, OEM revision 4, creator ID 4, creator revision 4'),
+    16: ('processor', 'flags 4, parent 4, processor ID 4'),
+    17: ('resource', 'cache 4'),
+    18: ('cache', 'flags 1, next level 4, size 4, sets 4, associativity 1, attributes 1, line size 2, ID 4'),
+    32: ('memory affinity', 'domain 4, base 8, length 8, flags 1'),
+    33: ('generic initiator', 'domain 4, hid 8, uid 4, flags 1'),
+    34: ('generic initiator', 'domain 4, segment 2, bus 1, device 1, function 1, flags 1'),
+    35: ('RINTC affinity', 'uid 4, flags 1, clock domain 4'),
+    48: ('proximity domain', 'initiator 4, memory 4'),
+    49: ('matrix', 'flags 1, data type 1, transfer size 1, base unit 8, initiators 1, targets 1'),
+    50: ('initiator value', 'index 1, value 4'),
+    51: ('target value', 'index 1, value 4'),
+    52: ('cell', 'initiator 1, target 1, value 2'),
+    53: ('side cache', 'domain 4, size 8, attributes 4'),
+    54: ('SMBIOS handle', 'handle 2'),
+}
+
+
+def record_at(r, place):
+    """where the record that holds this byte of a recipe begins, if those before it are whole"""
+    p = 0
+    while p + BODY[r[p]] < place:
+        p += 1 + BODY[r[p]]
+    return p
+
+
+def named(r, place):
+    """the field that begins at this byte of a recipe, in words"""
+    p = record_at(r, place)
+    record, words = WORDS[r[p]]
+    at = p + 1
+    for field in words.split(', '):
+        name, width = field.rsplit(' ', 1)
+        if at == place:
+            return '%s of the %s at %d' % (name, record, p)
+        at += int(width)
+    raise AssertionError('no field begins at %d' % place)
 
 
 # ---------------------------------------------------------------- listtab

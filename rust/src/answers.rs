@@ -2,11 +2,11 @@
 use crate::srat::Handle;
 use core::fmt;
 
-/// A refusal, as document 01 numbers it.
+/// A refusal, as documents 01 and 02 number it.
 #[derive(Clone, Copy, Debug, PartialEq, Eq)]
 pub struct Refusal {
     pub number: u32,
-    /// A byte of the recipe or of the table, the length needed, or the number of records.
+    /// A byte of the recipe or of the table, the length needed, or the number of records. Of a bad field it is the first byte.
     pub place: usize,
 }
 
@@ -18,10 +18,11 @@ impl Refusal {
             3 => "CUT",
             4 => "MISPLACED",
             5 => "BAD FIELD",
-            6 | 27 => "BAD REF",
+            6 => "FORWARD",
             7 => "FULL NODE",
             8 => "TOO LONG",
             9 | 31 => "NO ROOM",
+            10 => "WRONG KIND",
             20 => "SHORT",
             21 => "BAD SIGN",
             22 => "BAD LENGTH",
@@ -29,6 +30,7 @@ impl Refusal {
             24 => "BAD FRONT",
             25 => "BAD FRAME",
             26 => "BAD RECORD",
+            27 => "BAD REF",
             28 => "NO RECORD",
             29 => "UNKNOWN",
             30 => "REVISION",
@@ -41,7 +43,7 @@ impl fmt::Display for Refusal {
     fn fmt(&self, f: &mut fmt::Formatter<'_>) -> fmt::Result {
         let (number, name, place) = (self.number, self.name(), self.place);
         match number {
-            1..=8 => write!(f, "{number} {name} at byte {place} of the recipe"),
+            1..=8 | 10 => write!(f, "{number} {name} at byte {place} of the recipe"),
             9 | 31 => write!(f, "{number} {name}, {place} bytes needed"),
             28 => write!(f, "{number} {name}, the table has {place}"),
             _ => write!(f, "{number} {name} at byte {place} of the table"),

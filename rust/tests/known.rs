@@ -211,14 +211,42 @@ fn what_is_refused() {
     let refusal = pptt.try_table().unwrap_err();
     assert_eq!((refusal.number, refusal.name(), refusal.place), (7, "FULL NODE", 28 + 22 + 13 + 58 * 5));
     assert_eq!(refusal.to_string(), "7 FULL NODE at byte 353 of the recipe");
-    assert_eq!(Refusal { number: 5, place: 28 }.to_string(), "5 BAD FIELD at byte 28 of the recipe");
+    assert_eq!(Refusal { number: 10, place: 50 }.to_string(), "10 WRONG KIND at byte 50 of the recipe");
+    assert_eq!(Refusal { number: 27, place: 36 }.to_string(), "27 BAD REF at byte 36 of the table");
     assert_eq!(Refusal { number: 9, place: 88 }.to_string(), "9 NO ROOM, 88 bytes needed");
     assert_eq!(Refusal { number: 28, place: 2 }.to_string(), "28 NO RECORD, the table has 2");
     assert_eq!(Refusal { number: 23, place: 0 }.to_string(), "23 BAD SUM at byte 0 of the table");
 }
 
+/// Case C3 with one byte changed: what it is refused for.
 #[test]
-#[should_panic(expected = "6 BAD REF at byte 28 of the recipe")]
+fn which_byte() {
+    for (at, byte, text) in [
+        (1, 3, "5 BAD FIELD at byte 1 of the recipe"),
+        (35, 1, "5 BAD FIELD at byte 34 of the recipe"),
+        (64, 0, "6 FORWARD at byte 63 of the recipe"),
+        (64, 2, "6 FORWARD at byte 63 of the recipe"),
+        (55, 1, "10 WRONG KIND at byte 50 of the recipe"),
+    ] {
+        let mut recipe = c3();
+        recipe[at] = byte;
+        assert_eq!(check(&recipe).unwrap_err().to_string(), text);
+    }
+}
+
+#[test]
+#[should_panic(expected = "10 WRONG KIND at byte 50 of the recipe")]
+fn a_handle_of_another_table_for_a_node_of_the_other_kind_panics() {
+    let mut other = new_pptt();
+    let handle = other.add_processor(ProcessorNode::new(None, 0));
+    let mut pptt = new_pptt();
+    pptt.add_cache(CacheNodeBuilder::default().to_node());
+    pptt.add_processor(ProcessorNode::new(Some(&handle), 1));
+    bytes(&pptt);
+}
+
+#[test]
+#[should_panic(expected = "6 FORWARD at byte 28 of the recipe")]
 fn a_handle_of_another_table_panics() {
     let mut other = new_pptt();
     let handle = other.add_processor(ProcessorNode::new(None, 0));

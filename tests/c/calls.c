@@ -1,4 +1,4 @@
-/* Builds case C3, reads it and reads it out through the library; the refusals too. Exit status 1 at the first difference. */
+/* Builds case C3, reads it and reads it out through the library; refusals too. Exit status 1 at the first difference. */
 #include "acpi.h"
 #include <stdio.h>
 #include <stdlib.h>
@@ -33,6 +33,26 @@ static void builds(uint8_t *table)
     expect("empty at", place, 0);
     expect("cut", acpi_check(recipe, 67, &place), ACPI_CUT);
     expect("cut at", place, 63);
+}
+
+/* what acpi_check refuses with one byte of the recipe changed */
+static void refuses(const char *what, size_t at, uint8_t byte, uint32_t number, size_t where)
+{
+    size_t place = 99;
+    uint8_t changed[sizeof recipe];
+    memcpy(changed, recipe, sizeof recipe);
+    changed[at] = byte;
+    expect(what, acpi_check(changed, sizeof changed, &place), number);
+    expect(what, place, where);
+}
+
+static void faults(void)
+{
+    refuses("table code", 1, 3, ACPI_BAD_FIELD, 1);
+    refuses("a size that is not given", 35, 1, ACPI_BAD_FIELD, 34);
+    refuses("a resource that is the processor itself", 64, 2, ACPI_FORWARD, 63);
+    refuses("no resource", 64, 0, ACPI_FORWARD, 63);
+    refuses("a cache for a parent", 55, 1, ACPI_WRONG_KIND, 50);
 }
 
 static void reads(const uint8_t *table)
@@ -90,6 +110,7 @@ int main(void)
     uint8_t table[100];
     memset(table, 0xaa, sizeof table);
     builds(table);
+    faults();
     reads(table);
     lists(table);
     reads_out(table);

@@ -5,8 +5,9 @@ use Rattle.format.specs.Layout.{width, layWith, fieldsWith, fixedOk, refsGood}
 use Rattle.format.specs.Form.{layout, cacheAttributes, matrixFlags, sideAttributes, ranges}
 use Rattle.format.specs.Row.{column, matches, rowOf, formIn}
 use Rattle.format.specs.Kind.{kindOf, body}
-use Rattle.format.specs.Node.{bytes, nodeAt, sizes, starts, atPlace, atOrdinal, placeOf, ordinalOf}
-use Rattle.format.specs.Recipe.{cutAs, cut, resource, handle, setting, unset, step, fault, run, headed, meaning}
+use Rattle.format.specs.Node.{bytes, nodeAt, sizes, starts, atPlace, isOrdinal, atOrdinal, placeOf, ordinalOf}
+use Rattle.format.specs.Field.{firstBad}
+use Rattle.format.specs.Recipe.{cutAs, cut, resource, handle, setting, unset, step, fault, faultAt, run, headed, meaning}
 use Rattle.format.specs.Build.{records, header, summed, tableFrom, build, table, written, built}
 use Rattle.format.specs.Normal.{each, eachSet, settings, calls, callsOf, recipeOf, normal}
 use Rattle.format.specs.Read.{headFault, judgeHead, framed, frames, sound, recordFault, walk, walked, accept, shown, listIn, fieldsOf, partOf, read, readPart}
@@ -20,7 +21,7 @@ use Rattle.answers.specs.Lines.{refusal, success, told, carriedOut, cont
 use Rattle.answers.specs.Examples.{Examples}
 
 pub examples : Examples
-unfolding le value part over sum same width layWith fieldsWith fixedOk refsGood layout cacheAttributes matrixFlags sideAttributes ranges column matches rowOf formIn kindOf body bytes nodeAt sizes starts atPlace atOrdinal placeOf ordinalOf cutAs cut resource handle setting unset step fault run headed meaning records header summed tableFrom build table written built each eachSet settings calls callsOf recipeOf normal headFault judgeHead framed frames sound recordFault walk walked accept shown listIn fieldsOf partOf read readPart nodesFrom outOf meaningOf readOut recipe outWritten digits refusedWords shown.glyph shown.pairs shown.hexed shown.others shown.listed spaceIn callIn stepTo numberFrom numberIn valueOf allHex pairOf pairs dataIn allAre refusal success told carriedOut content ending found seen writing asking answerTo
+unfolding le value part over sum same width layWith fieldsWith fixedOk refsGood layout cacheAttributes matrixFlags sideAttributes ranges column matches rowOf formIn kindOf body bytes nodeAt sizes starts atPlace isOrdinal atOrdinal placeOf ordinalOf cutAs cut resource handle setting unset step fault firstBad faultAt run headed meaning records header summed tableFrom build table written built each eachSet settings calls callsOf recipeOf normal headFault judgeHead framed frames sound recordFault walk walked accept shown listIn fieldsOf partOf read readPart nodesFrom outOf meaningOf readOut recipe outWritten digits refusedWords shown.glyph shown.pairs shown.hexed shown.others shown.listed spaceIn callIn stepTo numberFrom numberIn valueOf allHex pairOf pairs dataIn allAre refusal success told carriedOut content ending found seen writing asking answerTo
 examples =
     record {
       ok-build = refl;
@@ -30,7 +31,10 @@ examples =
       refused-3 = refl;
       refused-4 = refl;
       refused-5 = refl;
+      refused-5-size = refl;
+      refused-5-function = refl;
       refused-6 = refl;
+      refused-10 = refl;
       refused-7 = refl;
       refused-8 = refl;
       refused-9 = refl;

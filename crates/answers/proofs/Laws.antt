@@ -125,7 +125,8 @@ told-build (made.Refused fault.BadKind p) out = refl
 told-build (made.Refused fault.Cut p) out = refl
 told-build (made.Refused fault.Misplaced p) out = refl
 told-build (made.Refused fault.BadField p) out = refl
-told-build (made.Refused fault.BadRef p) out = refl
+told-build (made.Refused fault.Forward p) out = refl
+told-build (made.Refused fault.WrongKind p) out = refl
 told-build (made.Refused fault.FullNode p) out = refl
 told-build (made.Refused fault.TooLong p) out = refl
 

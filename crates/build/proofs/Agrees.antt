@@ -14,7 +14,7 @@ use Rattle.format.specs.Node.{Node, Entry, sizes, starts, atOrdinal, placeOf}
 use Rattle.format.specs.Build.{records}
 use Rattle.laws.proofs.Finds.{never}
 use Rattle.laws.proofs.Lays.{both-true}
-use Rattle.laws.proofs.Faults.{length-starts}
+use Rattle.laws.proofs.Links.{length-starts}
 use Rattle.laws.proofs.Good.{Good}
 use Rattle.build.specs.Write.{placeIn}
 use Rattle.build.proofs.Walks.{place-among}

@@ -16,7 +16,7 @@ use Rattle.format.specs.Recipe.{resource, handle, setting, step, added}
 use Rattle.laws.proofs.Lays.{both-true}
 use Rattle.laws.proofs.Fits.{second}
 use Rattle.laws.proofs.Finds.{never}
-use Rattle.laws.proofs.Faults.{length-starts}
+use Rattle.laws.proofs.Links.{length-starts}
 use Rattle.laws.proofs.Grows.{View, seesProcessor, seesMatrix, seesSide, seesOther, view, Passed, kindHome}
 use Rattle.recipe.specs.Machine.{refers}
 use Rattle.build.proofs.Agrees.{named-below}

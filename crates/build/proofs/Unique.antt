@@ -6,7 +6,7 @@ use lib.Dec.{eqb}
 use Rattle.format.specs.Bytes.{pick, Answer, refused, given}
 use Rattle.laws.specs.Unique.{Fixes}
 use Rattle.laws.proofs.Sole.{sole, sole-meant, sole-pair}
-use Rattle.recipe.specs.declared.Refusal.the-variants.{NoHead, BadKind, Cut, Misplaced, BadField, BadRef, FullNode, TooLong}
+use Rattle.recipe.specs.declared.Refusal.the-variants.{NoHead, BadKind, Cut, Misplaced, BadField, Forward, WrongKind, FullNode, TooLong}
 use Rattle.recipe.proofs.Unique.{refusalOf}
 use Rattle.build.specs.declared.Built.{Built}
 use Rattle.build.specs.declared.Built.the-variants.{Length, NoRoom, Refused}
@@ -27,7 +27,8 @@ built-back (Refused BadKind p) = refl
 built-back (Refused Cut p) = refl
 built-back (Refused Misplaced p) = refl
 built-back (Refused BadField p) = refl
-built-back (Refused BadRef p) = refl
+built-back (Refused Forward p) = refl
+built-back (Refused WrongKind p) = refl
 built-back (Refused FullNode p) = refl
 built-back (Refused TooLong p) = refl
 

@@ -18,9 +18,8 @@ use Rattle.format.specs.Node.{Node, bytes, sizes, starts, placeOf}
 use Rattle.format.specs.Build.{records}
 use Rattle.laws.proofs.Bytes.{over-fits}
 use Rattle.laws.proofs.Shapes.{Within, tableFor}
-use Rattle.laws.proofs.Faults.{length-starts}
 use Rattle.laws.proofs.Heads.{length-records}
-use Rattle.laws.proofs.Links.{place-zero, place-below, starts-rise}
+use Rattle.laws.proofs.Links.{place-zero, place-below, length-starts, starts-rise}
 use Rattle.laws.proofs.Good.{Good}
 use Rattle.marks.specs.declared.Mark.{Mark}
 use Rattle.build.specs.Write.{hops, placeIn}

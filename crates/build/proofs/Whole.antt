@@ -14,11 +14,12 @@ use Rattle.format.specs.Layout.{width, fields}
 use Rattle.format.specs.Table.{Head, headOf}
 use Rattle.format.specs.Node.{Node, sizes}
 use Rattle.format.specs.Kind.{Kind, Processor, Resource, Cache, Memory, Acpi, Pci, Rintc, Domain, Matrix, Initiator, Target, Cell, Side, Handle, kindOf, body}
-use Rattle.format.specs.Recipe.{Calls, done, badKind, cutOff, called, cutAs, skip, cut, resource, handle, setting, step, added, fault, Meaning, means, since, run, tableOf, headed, meaning}
+use Rattle.format.specs.Recipe.{Calls, done, badKind, cutOff, called, cutAs, skip, cut, resource, handle, setting, step, added, fault, faultAt, Meaning, means, since, run, tableOf, headed, meaning}
 use Rattle.format.specs.Build.{table}
 use Rattle.laws.proofs.Finds.{never, none-first, then-given, unless-given}
 use Rattle.laws.proofs.Grows.{View, seesProcessor, seesMatrix, seesSide, seesOther, view, passed}
 use Rattle.laws.proofs.Calls.{cut-skip}
+use Rattle.laws.proofs.Builds.{headed-given}
 
 -- ---- the nodes only grow
 
@@ -68,7 +69,9 @@ not-given e = absurd (let z : _≡_ {A = ℕ} 0 1 = cc in omega arith)
 run-turn : (h : Head) (q : ℕ) (ns : List Node) (p : ℕ) (k : Kind) (vs : List ℕ) (rest : Calls) (m : Meaning) → run h q ns (called p k vs rest) ≡ given m
     → (fault (h .table) ns k vs ≡ 0) × (run h (since ns (added k vs ns) p q) (added k vs ns) rest ≡ given m)
 unfolding run
-run-turn h q ns p k vs rest m e = unless-given (fault (h .table) ns k vs) p (run h (since ns (added k vs ns) p q) (added k vs ns) rest) e
+run-turn h q ns p k vs rest m e =
+    let n = fault (h .table) ns k vs in
+    unless-given n (p + faultAt n k (step k vs ns .ranges)) (run h (since ns (added k vs ns) p q) (added k vs ns) rest) e
 
 pub run-end : (h : Head) (q : ℕ) (ns : List Node) (m : Meaning) → run h q ns done ≡ given m → means h ns ≡ m
 unfolding run
@@ -126,23 +129,13 @@ module _ (h : Head) (q : ℕ) (r : List ℕ) (ns : List Node) (p : ℕ) (m : Mea
 
 -- ---- the head
 
-pub headed-is : (r : List ℕ) (h : Head) → headed r ≡ given h → (h ≡ headOf (h .table) (part r 2 26)) × (28 ≤ length r)
-unfolding headed
-headed-is r h e =
-    let tests : List (Bool × ℕ) = (not (eqb (at r 0) 1), 1) ∷ (ltb (length r) 28, 3) ∷ [] in
-    let (z, d) = unless-given (firstOf tests) 0 (andThen (orRefused 5 0 (tableOf (at r 1))) (λ t. given (headOf t (part r 2 26)))) e in
-    let n : 28 ≤ length r = ltb-false (length r) 28 (none-first tests (search arith) z .1 .0) in
-    let (t, o, f) = then-given (orRefused 5 0 (tableOf (at r 1))) (λ t. given (headOf t (part r 2 26))) d in
-    let y : headOf t (part r 2 26) ≡ h = cc in
-    rw (← y) (refl, n)
-
 -- a recipe with a meaning has a head, from which its records lead there
 pub from-head : (r : List ℕ) (m : Meaning) → meaning r ≡ given m
     → (28 ≤ length r) × (m .head ≡ headOf (m .head .table) (part r 2 26)) × (run (headOf (m .head .table) (part r 2 26)) 0 [] (cut (m .head .table) 0 28 (drop 28 r)) ≡ given m)
 unfolding meaning
 from-head r m e =
     let (h, d, f) = then-given (headed r) (λ h. run h 0 [] (cut (h .table) 0 28 (drop 28 r))) e in
-    let (own, n) = headed-is r h d in
+    let (own, n) = headed-given r h d in
     let k = run-keeps h 0 [] (cut (h .table) 0 28 (drop 28 r)) m f .0 in
     let own′ : m .head ≡ headOf (m .head .table) (part r 2 26) = rw k at own in
     (n, own′, rw (← own′) (rw k at f))

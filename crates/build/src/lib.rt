@@ -89,7 +89,8 @@ fn number_of(refusal: Refusal) -> u8
         Refusal::Cut => 3,
         Refusal::Misplaced => 4,
         Refusal::BadField => 5,
-        Refusal::BadRef => 6,
+        Refusal::Forward => 6,
+        Refusal::WrongKind => 10,
         Refusal::FullNode => 7,
         Refusal::TooLong => 8,
     }

@@ -1,4 +1,4 @@
--- A node as a recipe says it: the kind that makes it, its records, and the first of its fields that is outside its range.
+-- The fields of a recipe's record: the kind that makes a node, and the first field that is outside its range.
 use Prim.Native.Nat.{ℕ, _+_}
 use mathlib.Core.List.{List, [], _∷_}
 use mathlib.Core.Bool.{Bool}
@@ -7,7 +7,6 @@ use Rattle.format.specs.Layout.{Item, wide}
 use Rattle.format.specs.Form.{Form, processor, cache, memory, acpi, pci, rintc, domain, matrix, side, ranges}
 use Rattle.format.specs.Node.{Node}
 use Rattle.format.specs.Kind.{Kind, Processor, Cache, Memory, Acpi, Pci, Rintc, Domain, Matrix, Side, body}
-use Rattle.format.specs.Normal.{calls}
 
 -- the kind that makes a node of this form
 abbrev pub maker : Form → Kind
@@ -20,10 +19,6 @@ maker rintc = Rintc
 maker domain = Domain
 maker (matrix i t) = Matrix
 maker (side n) = Side
-
--- the records of one node
-abbrev pub callsOfNode : Node → List ℕ
-callsOfNode n = calls (n .form) (n .values)
 
 -- the place of the first field whose test fails; 0 where none does; p: the place of the first
 unfoldable pub firstBad : ℕ → List Item → List Bool → ℕ

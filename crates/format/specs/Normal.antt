@@ -44,10 +44,14 @@ calls domain vs = call Domain vs
 calls (matrix i t) vs = call Matrix (take 4 vs ++ (i ∷ t ∷ [])) ++ settings i t (drop 4 vs)
 calls (side n) vs = call Side (take 3 vs) ++ each Handle (drop 3 vs)
 
+-- the same of the node as a whole
+abbrev pub callsOfNode : Node → List ℕ
+callsOfNode n = calls (n .form) (n .values)
+
 -- the records of all nodes, the oldest first
 unfoldable pub callsOf : List Node → List ℕ
 callsOf [] = []
-callsOf (n ∷ ns) = callsOf ns ++ calls (n .form) (n .values)
+callsOf (n ∷ ns) = callsOf ns ++ callsOfNode n
 
 -- the head's record
 abbrev pub headCall : Head → List ℕ

@@ -9,8 +9,9 @@ use Rattle.format.specs.Bytes.{pick, all, firstOf, find, Answer, refused
 use Rattle.format.specs.Layout.{width, fields, refsGood}
 use Rattle.format.specs.Table.{Table, tables, code, front, limit, Head, headOf}
 use Rattle.format.specs.Form.{Form, processor, cache, memory, acpi, pci, rintc, domain, matrix, side, ranges}
-use Rattle.format.specs.Node.{Node, node, sizes, starts, atOrdinal}
+use Rattle.format.specs.Node.{Node, node, sizes, starts, isOrdinal, atOrdinal}
 use Rattle.format.specs.Kind.{Kind, Processor, Resource, Cache, Memory, Acpi, Pci, Rintc, Domain, Matrix, Initiator, Target, Cell, Side, Handle, kindOf, body}
+use Rattle.format.specs.Field.{badIn}
 
 -- ---- cutting
 
@@ -43,7 +44,7 @@ cut t zero p (b ∷ bs) = cutAs (kindOf t b) bs p (cut t (skip (kindOf t b)) (su
 pub record Step : Type 0 where
   pub placed : Bool  -- it stands where it may: else 4
   pub ranges : List Bool  -- its fields' tests, in order: else 5
-  pub earlier : List Node  -- its references name one of these: else 6
+  pub earlier : List Node  -- its references name one of these: else 6; and that is of the right type: else 10
   pub full : Bool  -- its node's list has no room: 7
   pub nodes : List Node  -- the nodes with it
 
@@ -138,9 +139,14 @@ fault t ns k vs =
     let s : Step = step k vs ns in
     firstOf ((not (s .placed), 4)
     ∷ (not (all (s .ranges)), 5)
-    ∷ (not (refsGood (atOrdinal (starts t (s .earlier))) (body k) vs), 6)
+    ∷ (not (refsGood (isOrdinal (length (s .earlier))) (body k) vs), 6)
+    ∷ (not (refsGood (atOrdinal (starts t (s .earlier))) (body k) vs), 10)
     ∷ (s .full, 7)
     ∷ (ltb limit (front t + sizes (s .nodes)), 8) ∷ [])
+
+-- where fault n of a record is, counted from its kind byte: of a bad field its first byte, of every other the kind byte; tests: those of its fields
+unfoldable pub faultAt : ℕ → Kind → List Bool → ℕ
+faultAt n k tests = pick (eqb n 5) (badIn k tests) 0
 
 -- ---- the whole recipe
 
@@ -163,18 +169,19 @@ run h q ns done = given (means h ns)
 run h q ns (badKind p) = refused 2 p
 run h q ns (cutOff p k) = refused 3 p
 run h q ns (called p k vs rest) =
-    unless (fault (h .table) ns k vs) p (run h (since ns (added k vs ns) p q) (added k vs ns) rest)
+    let n : ℕ = fault (h .table) ns k vs in
+    unless n (p + faultAt n k (step k vs ns .ranges)) (run h (since ns (added k vs ns) p q) (added k vs ns) rest)
 
 -- the table of a head's code
 abbrev pub tableOf : ℕ → Option Table
 tableOf c = find (λ t. eqb c (code t)) tables
 
--- the head is 28 bytes: kind, table, and 26 that go over as they are
+-- the head is 28 bytes: kind, table, and 26 that go over as they are; its table is its first field, at place 1
 unfoldable pub headed : List ℕ → Answer Head
 headed r =
     unless (firstOf ((not (eqb (at r 0) 1), 1) ∷ (ltb (length r) 28, 3) ∷ [])) 0
-    (andThen (orRefused 5 0 (tableOf (at r 1))) (λ t. given (headOf t (part r 2 26))))
+    (andThen (orRefused 5 1 (tableOf (at r 1))) (λ t. given (headOf t (part r 2 26))))
 
--- what a recipe means, or refusal 1 to 8
+-- what a recipe means, or refusal 1 to 8 or 10
 unfoldable pub meaning : List ℕ → Answer Meaning
 meaning r = andThen (headed r) (λ h. run h 0 [] (cut (h .table) 0 28 (drop 28 r)))

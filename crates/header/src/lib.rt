@@ -166,6 +166,9 @@ impl TableHeader {
 
     pub const BODY: usize = 27;
 
+    // Where the table's code stands in a body.
+    pub const CODE_AT: usize = 0;
+
     pub const LEN: usize = 36;
 
     // Where length, revision, checksum and what a head gives stand.

@@ -13,8 +13,8 @@ ghost use Rattle.format.specs.Form.{domain, side, size, layout, matrixFlags, si
 ghost use Rattle.format.specs.Node.{node, bytes, nodeAt};
 ghost use Rattle.format.specs.Kind.{Domain, Matrix, Initiator, Side, body};
 ghost use Rattle.format.specs.Kind as format;
-ghost use Rattle.format.specs.Normal.{call};
-ghost use Rattle.format.specs.Field.{callsOfNode, badIn, badField};
+ghost use Rattle.format.specs.Normal.{call, callsOfNode};
+ghost use Rattle.format.specs.Field.{badIn, badField};
 ghost use Rattle.format.specs.Row.{matrices, sides, column, formIn};
 ghost use Rattle.format.specs.Read.{sound};
 ghost use Rattle.hmat.specs.Numbers.{dataTypeNumber, transferNumber, localityNumber, levelNumber, associativityNumber, policyNumber};

@@ -1,5 +1,5 @@
 -- A recipe that is not refused means good nodes, by induction over its records; so its table is read out as what it means.
-use mathlib.Core.Path.{_≡_, refl}
+use mathlib.Core.Path.{_≡_, refl, ap}
 use Prim.Native.Nat.{ℕ, zero, suc, _+_, _≤_}
 use mathlib.Core.List.{List, [], _∷_}
 use mathlib.Core.Bool.{Bool, true, false, not}
@@ -13,7 +13,7 @@ use Rattle.format.specs.Layout.{width, fields, fixedOk}
 use Rattle.format.specs.Table.{Table, pptt, srat, hmat, front, limit, Head, headOf}
 use Rattle.format.specs.Node.{Node, sizes}
 use Rattle.format.specs.Kind.{Kind, Processor, Resource, Cache, Memory, Acpi, Pci, Rintc, Domain, Matrix, Initiator, Target, Cell, Side, Handle, kindNumber, kinds, kindOf, body}
-use Rattle.format.specs.Recipe.{Calls, done, badKind, cutOff, called, cutAs, skip, cut, added, fault, Meaning, means, since, run, tableOf, headed, meaning}
+use Rattle.format.specs.Recipe.{Calls, done, badKind, cutOff, called, cutAs, skip, cut, step, added, fault, faultAt, Meaning, means, since, run, tableOf, headed, meaning}
 use Rattle.format.specs.Build.{tableFrom}
 use Rattle.format.specs.Out.{meaningOf}
 use Rattle.laws.proofs.Bytes.{bytes-drop, length-part}
@@ -107,10 +107,11 @@ run-good h q ns done m w g l e =
 run-good h q ns (badKind p) m w g l e = absurd (let z : _≡_ {A = ℕ} 0 1 = cc in omega arith)
 run-good h q ns (cutOff p k) m w g l e = absurd (let z : _≡_ {A = ℕ} 0 1 = cc in omega arith)
 run-good h q ns (called p k vs rest) m (own, f, w) g l e =
-    let (z, r) = unless-given (fault (h .table) ns k vs) p (run h (since ns (added k vs ns) p q) (added k vs ns) rest) e in
+    let n = fault (h .table) ns k vs in
+    let (z, r) = unless-given n (p + faultAt n k (step k vs ns .ranges)) (run h (since ns (added k vs ns) p q) (added k vs ns) rest) e in
     let s = passed (h .table) ns k vs z in
-    let n : Good (kindHome k) (added k vs ns) = grows k vs ns f (rw own s) (rw own g) in
-    run-good h (since ns (added k vs ns) p q) (added k vs ns) rest m w (rw own at n) (s .short) r
+    let m′ : Good (kindHome k) (added k vs ns) = grows k vs ns f (rw own s) (rw own g) in
+    run-good h (since ns (added k vs ns) p q) (added k vs ns) rest m w (rw own at m′) (s .short) r
 
 front-short : (t : Table) → front t + sizes [] ≤ limit
 unfolding sizes
@@ -126,15 +127,15 @@ pub record Means (m : Meaning) : Type 0 where
   pub short : front (m .head .table) + sizes (m .nodes) ≤ limit
 
 -- the head of a recipe that has one
-pub headed-given : (r : List ℕ) (h : Head) → headed r ≡ given h → (h ≡ headOf (h .table) (h .identity)) × (length (h .identity) ≡ 26)
+pub headed-given : (r : List ℕ) (h : Head) → headed r ≡ given h → (h ≡ headOf (h .table) (part r 2 26)) × (28 ≤ length r)
 unfolding headed
 headed-given r h e =
     let tests : List (Bool × ℕ) = (not (eqb (at r 0) 1), 1) ∷ (ltb (length r) 28, 3) ∷ [] in
-    let (z, d) = unless-given (firstOf tests) 0 (andThen (orRefused 5 0 (tableOf (at r 1))) (λ t. given (headOf t (part r 2 26)))) e in
+    let (z, d) = unless-given (firstOf tests) 0 (andThen (orRefused 5 1 (tableOf (at r 1))) (λ t. given (headOf t (part r 2 26)))) e in
     let n : 28 ≤ length r = ltb-false (length r) 28 (none-first tests (search arith) z .1 .0) in
-    let (t, o, f) = then-given (orRefused 5 0 (tableOf (at r 1))) (λ t. given (headOf t (part r 2 26))) d in
+    let (t, o, f) = then-given (orRefused 5 1 (tableOf (at r 1))) (λ t. given (headOf t (part r 2 26))) d in
     let y : headOf t (part r 2 26) ≡ h = cc in
-    rw (← y) (refl, length-part r 2 26 (omega arith))
+    rw (← y) (refl, n)
 
 pub meaning-good : (r : List ℕ) (m : Meaning) → Bytes r → meaning r ≡ given m → Means m
 unfolding meaning
@@ -143,7 +144,10 @@ meaning-good r m b e =
     let t = h .table in
     let (same, g, l) = run-good h 0 [] (cut t 0 28 (drop 28 r)) m (cut-whole t 0 28 (drop 28 r) (bytes-drop 28 r b)) tt (front-short t) f in
     let (own, n) = headed-given r h d in
-    record { head = rw same at own; identity = rw same at n; good = rw same at g; short = rw same at l }
+    let i : h .identity ≡ part r 2 26 = ap (λ (h : Head). h .identity) own in
+    let whole : h ≡ headOf t (h .identity) = rw i own in
+    let long : length (h .identity) ≡ 26 = rw i (length-part r 2 26 (omega arith)) in
+    record { head = rw same at whole; identity = rw same at long; good = rw same at g; short = rw same at l }
 
 -- ---- the table of what a recipe means, means that
 

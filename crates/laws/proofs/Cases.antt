@@ -1,20 +1,21 @@
--- C1 to C12 hold by computation.
+-- C1 to C12 and the cases of order 1 hold by computation.
 use mathlib.Core.Path.{refl}
 use Rattle.format.specs.Bytes.{le, value, part, over, sum, same}
 use Rattle.format.specs.Layout.{width, layWith, fieldsWith, fixedOk, refsGood}
 use Rattle.format.specs.Form.{layout, cacheAttributes, matrixFlags, sideAttributes, ranges}
 use Rattle.format.specs.Row.{column, matches, rowOf, formIn}
 use Rattle.format.specs.Kind.{kindOf, body}
-use Rattle.format.specs.Node.{bytes, nodeAt, sizes, starts, atPlace, atOrdinal, placeOf, ordinalOf}
-use Rattle.format.specs.Recipe.{cutAs, cut, resource, handle, setting, unset, step, fault, run, headed, meaning}
+use Rattle.format.specs.Node.{bytes, nodeAt, sizes, starts, atPlace, isOrdinal, atOrdinal, placeOf, ordinalOf}
+use Rattle.format.specs.Field.{firstBad}
+use Rattle.format.specs.Recipe.{cutAs, cut, resource, handle, setting, unset, step, fault, faultAt, run, headed, meaning}
 use Rattle.format.specs.Build.{records, header, summed, tableFrom, build, table, written, built}
 use Rattle.format.specs.Normal.{each, eachSet, settings, calls, callsOf, recipeOf, normal}
 use Rattle.format.specs.Read.{headFault, judgeHead, framed, frames, sound, recordFault, walk, walked, accept, shown, listIn, fieldsOf, partOf, read, readPart}
 use Rattle.format.specs.Out.{nodesFrom, outOf, meaningOf, readOut, recipe, outWritten}
-use Rattle.laws.specs.Cases.{CheckedByHand}
+use Rattle.laws.specs.Cases.{CheckedByHand, ToldByHand}
 
 pub checked : CheckedByHand
-unfolding le value part over sum same width layWith fieldsWith fixedOk refsGood layout cacheAttributes matrixFlags sideAttributes ranges column matches rowOf formIn kindOf body bytes nodeAt sizes starts atPlace atOrdinal placeOf ordinalOf cutAs cut resource handle setting unset step fault run headed meaning records header summed tableFrom build table written built each eachSet settings calls callsOf recipeOf normal headFault judgeHead framed frames sound recordFault walk walked accept shown listIn fieldsOf partOf read readPart nodesFrom outOf meaningOf readOut recipe outWritten
+unfolding le value part over sum same width layWith fieldsWith fixedOk refsGood layout cacheAttributes matrixFlags sideAttributes ranges column matches rowOf formIn kindOf body bytes nodeAt sizes starts atPlace isOrdinal atOrdinal placeOf ordinalOf cutAs cut resource handle setting unset step fault firstBad faultAt run headed meaning records header summed tableFrom build table written built each eachSet settings calls callsOf recipeOf normal headFault judgeHead framed frames sound recordFault walk walked accept shown listIn fieldsOf partOf read readPart nodesFrom outOf meaningOf readOut recipe outWritten
 checked =
     record {
       c1 = (refl, refl, refl);
@@ -32,4 +33,24 @@ checked =
       c11 = λ room. refl;
       c12 = refl;
       c12-part = refl;
+    }
+
+pub told : ToldByHand
+unfolding le value part width layWith fieldsWith refsGood cacheAttributes matrixFlags sideAttributes ranges kindOf body sizes starts isOrdinal atOrdinal cutAs cut resource setting unset step fault firstBad faultAt run headed meaning build
+told =
+    record {
+      table = λ room. refl;
+      size = λ room. refl;
+      attributes = λ room. refl;
+      first = λ room. refl;
+      transfer = λ room. refl;
+      initiator = λ room. refl;
+      column = λ room. refl;
+      side = λ room. refl;
+      none = λ room. refl;
+      own = λ room. refl;
+      its = λ room. refl;
+      parent = λ room. refl;
+      level = λ room. refl;
+      resource = λ room. refl;
     }

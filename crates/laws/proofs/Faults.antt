@@ -5,21 +5,24 @@ use Prim.Native.Nat.{ℕ, suc, _+_, _≤_, _<_}
 use mathlib.Core.List.{List, [], _∷_}
 use mathlib.Core.Bool.{Bool, true, false, not}
 use mathlib.Core.Option.{Option, none, some}
+use native.Mathlib.Nat.{add-zero}
 use native.Mathlib.Omega.{arith}
 use lib.ListN.{length, drop, length-append}
-use lib.Dec.{eqb, ltb}
+use lib.Dec.{eqb, leb, ltb}
 use borrow.Author.Tests.{eqb-true, eqb-false, not-false}
-use Rattle.format.specs.Bytes.{pick, all, find, at}
+use Rattle.format.specs.Bytes.{pick, both, all, find, at}
 use Rattle.format.specs.Layout.{refsGood}
 use Rattle.format.specs.Table.{Table, pptt, srat, hmat, front, limit}
 use Rattle.format.specs.Form.{Form, processor, cache, memory, acpi, pci, rintc, domain, matrix, side, typeOf}
-use Rattle.format.specs.Node.{Node, sizes, starts, atOrdinal}
+use Rattle.format.specs.Node.{Node, sizes, starts, isOrdinal, atOrdinal}
 use Rattle.format.specs.Kind.{Kind, Processor, Resource, Cache, Memory, Acpi, Pci, Rintc, Domain, Matrix, Initiator, Target, Cell, Side, Handle, kindNumber, kinds, kindOf, body}
-use Rattle.format.specs.Recipe.{Newest, aProcessor, aMatrix, aSide, other, newestAs, newest, resource, handle, setting, step, added, fault}
-use Rattle.laws.specs.Words.{FirstOf, NoneOf, References}
-use Rattle.laws.specs.Demand1.{Belongs, joins, After, earlier, counts, Ranged, Full, Names, recordFaults, OfKind}
+use Rattle.format.specs.Field.{badIn}
+use Rattle.format.specs.Recipe.{Newest, aProcessor, aMatrix, aSide, other, newestAs, newest, resource, handle, setting, step, added, fault, faultAt}
+use Rattle.laws.specs.Words.{FirstOf, NoneOf, FirstNot, References}
+use Rattle.laws.specs.Demand1.{Belongs, joins, After, earlier, counts, Ranged, places, Full, Backward, Names, recordFaults, Where, OfKind}
 use Rattle.laws.proofs.Finds.{never, All, found-test, found-in}
-use Rattle.laws.proofs.Words.{Tests, found-none, among-none, among-cases, among-more, tests-leb, tests-ltb, tests-true, tests-not, tests-both, tests-rules, tests-references, Mirrors, none-of, first-of}
+use Rattle.laws.proofs.Words.{Tests, TestsAll, tests-every, found-none, among-none, among-cases, among-more, tests-leb, tests-ltb, tests-true, tests-not, tests-both, tests-as, tests-rules, tests-references, Mirrors, none-of, first-of, first-not, offsets, first-bad}
+use Rattle.laws.proofs.Links.{length-starts}
 
 -- ---- the kind of a byte
 
@@ -172,48 +175,81 @@ follows-next Handle vs ns e = handle-next vs (newest ns) e
 
 -- ---- ranges
 
-no-ranges : (a : Bool) → a ≡ true → Tests a Unit
-no-ranges a e = record { right = λ q. tt; wrong = λ q. never (sym q ∙ e) }
-
-resource-ranged : (vs : List ℕ) (x : Newest) → all (resource vs x .ranges) ≡ true
+resource-ranged : (vs : List ℕ) (x : Newest) → resource vs x .ranges ≡ []
 unfolding resource
 resource-ranged vs (aProcessor n us ns) = refl
 resource-ranged vs (aMatrix i t us ns) = refl
 resource-ranged vs (aSide n us ns) = refl
 resource-ranged vs other = refl
 
-handle-ranged : (vs : List ℕ) (x : Newest) → all (handle vs x .ranges) ≡ true
+handle-ranged : (vs : List ℕ) (x : Newest) → handle vs x .ranges ≡ []
 unfolding handle
 handle-ranged vs (aProcessor n us ns) = refl
 handle-ranged vs (aMatrix i t us ns) = refl
 handle-ranged vs (aSide n us ns) = refl
 handle-ranged vs other = refl
 
-setting-ranged : (tests : ℕ → ℕ → List Bool) (field : ℕ → ℕ → ℕ) (v : ℕ) (P : ℕ → ℕ → Type 0) → ((i t : ℕ) → Tests (all (tests i t)) (P i t))
-    → (x : Newest) → setting tests field v x .placed ≡ true → Tests (all (setting tests field v x .ranges)) (P (counts x .0) (counts x .1))
+setting-ranged : (tests : ℕ → ℕ → List Bool) (field : ℕ → ℕ → ℕ) (v : ℕ) (P : ℕ → ℕ → List (Type 0)) → ((i t : ℕ) → TestsAll (tests i t) (P i t))
+    → (x : Newest) → setting tests field v x .placed ≡ true → TestsAll (setting tests field v x .ranges) (P (counts x .0) (counts x .1))
 unfolding setting
 setting-ranged tests field v P h (aProcessor n us ns) e = never e
 setting-ranged tests field v P h (aMatrix i t us ns) e = h i t
 setting-ranged tests field v P h (aSide n us ns) e = never e
 setting-ranged tests field v P h other e = never e
 
-tests-ranged : (k : Kind) (vs : List ℕ) (ns : List Node) → step k vs ns .placed ≡ true → Tests (all (step k vs ns .ranges)) (Ranged k vs (newest ns))
+tests-ranged : (k : Kind) (vs : List ℕ) (ns : List Node) → step k vs ns .placed ≡ true → TestsAll (step k vs ns .ranges) (Ranged k vs (newest ns))
 unfolding step
-tests-ranged Processor vs ns e = tests-true
-tests-ranged Resource vs ns e = no-ranges _ (resource-ranged vs (newest ns))
+tests-ranged Processor vs ns e = tt
+tests-ranged Resource vs ns e = rw (resource-ranged vs (newest ns)) tt
 tests-ranged Cache vs ns e = tests-rules cache vs
 tests-ranged Memory vs ns e = tests-rules memory vs
 tests-ranged Acpi vs ns e = tests-rules acpi vs
 tests-ranged Pci vs ns e = tests-rules pci vs
 tests-ranged Rintc vs ns e = tests-rules rintc vs
-tests-ranged Domain vs ns e = tests-true
+tests-ranged Domain vs ns e = tt
 tests-ranged Matrix vs ns e = tests-rules (matrix (at vs 4) (at vs 5)) vs
-tests-ranged Initiator vs ns e = setting-ranged _ _ _ (λ i t. at vs 0 < i) (λ i t. tests-ltb (at vs 0) i) (newest ns) e
-tests-ranged Target vs ns e = setting-ranged _ _ _ (λ i t. at vs 0 < t) (λ i t. tests-ltb (at vs 0) t) (newest ns) e
+tests-ranged Initiator vs ns e = setting-ranged _ _ _ (λ i t. (at vs 0 < i) ∷ []) (λ i t. (tests-ltb (at vs 0) i, tt)) (newest ns) e
+tests-ranged Target vs ns e = setting-ranged _ _ _ (λ i t. (at vs 0 < t) ∷ []) (λ i t. (tests-ltb (at vs 0) t, tt)) (newest ns) e
 tests-ranged Cell vs ns e =
-    setting-ranged _ _ _ (λ i t. (at vs 0 < i) × (at vs 1 < t)) (λ i t. tests-both (ltb (at vs 0) i) (ltb (at vs 1) t) (tests-ltb (at vs 0) i) (tests-ltb (at vs 1) t)) (newest ns) e
+    setting-ranged _ _ _ (λ i t. (at vs 0 < i) ∷ (at vs 1 < t) ∷ []) (λ i t. (tests-ltb (at vs 0) i, (tests-ltb (at vs 1) t, tt))) (newest ns) e
 tests-ranged Side vs ns e = tests-rules (side 0) vs
-tests-ranged Handle vs ns e = no-ranges _ (handle-ranged vs (newest ns))
+tests-ranged Handle vs ns e = rw (handle-ranged vs (newest ns)) tt
+
+-- a condition for each field at most
+few-ranged : (k : Kind) (vs : List ℕ) (n : Newest) → length (Ranged k vs n) ≤ length (body k)
+unfolding body
+few-ranged Processor vs n = omega arith
+few-ranged Resource vs n = omega arith
+few-ranged Cache vs n = omega arith
+few-ranged Memory vs n = omega arith
+few-ranged Acpi vs n = omega arith
+few-ranged Pci vs n = omega arith
+few-ranged Rintc vs n = omega arith
+few-ranged Domain vs n = omega arith
+few-ranged Matrix vs n = omega arith
+few-ranged Initiator vs n = omega arith
+few-ranged Target vs n = omega arith
+few-ranged Cell vs n = omega arith
+few-ranged Side vs n = omega arith
+few-ranged Handle vs n = omega arith
+
+-- where the fields are said to begin, the items of the body do
+places-body : (k : Kind) → offsets 1 (body k) ≡ places k
+unfolding body
+places-body Processor = refl
+places-body Resource = refl
+places-body Cache = refl
+places-body Memory = refl
+places-body Acpi = refl
+places-body Pci = refl
+places-body Rintc = refl
+places-body Domain = refl
+places-body Matrix = refl
+places-body Initiator = refl
+places-body Target = refl
+places-body Cell = refl
+places-body Side = refl
+places-body Handle = refl
 
 -- ---- a full list
 
@@ -263,11 +299,6 @@ tests-full Handle vs ns e = handle-full vs (newest ns) e
 
 -- ---- references
 
-pub length-starts : (t : Table) (ns : List Node) → length (starts t ns) ≡ length ns
-unfolding starts
-length-starts t [] = refl
-length-starts t (n ∷ ns) = ap suc (length-starts t ns)
-
 -- n is the one that v names, of the type ty
 abbrev Named : ℕ → ℕ → Node → List Node → Type 0
 Named v ty n before = (v ≡ suc (length before)) × (typeOf (n .form) ≡ ty)
@@ -296,6 +327,11 @@ tests-names t (n ∷ ns) v ty = by (eqb (suc (length (starts t ns))) v) refl (te
           wrong = λ e h. ⊎-elim (λ k. eqb-false (suc (length (starts t ns))) v q (omega (arith, l, k .0))) (ih .wrong e) (among-cases (Named v ty) n ns h);
         }
 
+tests-backward : (ns : List Node) (v ty : ℕ) → Tests (isOrdinal (length ns) v ty) (Backward ns v ty)
+unfolding isOrdinal
+tests-backward ns v ty =
+    tests-as (both (leb 1 v) (leb v (length ns))) (tests-both (leb 1 v) (leb v (length ns)) (tests-leb 1 v) (tests-leb v (length ns))) (λ h. omega (arith, h)) (λ h. omega (arith, h))
+
 -- a resource's own node is the newest
 resource-earlier : (vs : List ℕ) (ns : List Node) → resource vs (newest ns) .placed ≡ true → resource vs (newest ns) .earlier ≡ drop 1 ns
 unfolding resource
@@ -313,12 +349,13 @@ resource-earlier vs (n ∷ ns) e = by (n .form) e
     by (matrix i t) e = never e
     by (side i) e = never e
 
-module _ (t : Table) (vs : List ℕ) where
-  tests-refer : (k : Kind) (ns : List Node) → Tests (refsGood (atOrdinal (starts t ns)) (body k) vs) (References (Names ns) (body k) vs)
-  tests-refer k ns = tests-references (atOrdinal (starts t ns)) (Names ns) (tests-names t ns) (body k) vs
+-- a test of references, by the nodes before the record's own
+module _ (ok : List Node → ℕ → ℕ → Bool) (P : List Node → ℕ → ℕ → Type 0) (names : (ns : List Node) (v ty : ℕ) → Tests (ok ns v ty) (P ns v ty)) (vs : List ℕ) where
+  tests-refer : (k : Kind) (ns : List Node) → Tests (refsGood (ok ns) (body k) vs) (References (P ns) (body k) vs)
+  tests-refer k ns = tests-references (ok ns) (P ns) (names ns) (body k) vs
 
   tests-refs : (k : Kind) (ns : List Node) → step k vs ns .placed ≡ true
-      → Tests (refsGood (atOrdinal (starts t (step k vs ns .earlier))) (body k) vs) (References (Names (earlier (joins k) ns)) (body k) vs)
+      → Tests (refsGood (ok (step k vs ns .earlier)) (body k) vs) (References (P (earlier (joins k) ns)) (body k) vs)
   unfolding step body refsGood
   tests-refs Processor ns e = tests-refer Processor ns
   tests-refs Resource ns e = rw (resource-earlier vs ns e) (tests-refer Resource (drop 1 ns))
@@ -342,11 +379,12 @@ module _ (t : Table) (b : ℕ) (ns : List Node) (k : Kind) (vs : List ℕ) (f : 
   checks =
       (not (step k vs ns .placed), 4)
       ∷ (not (all (step k vs ns .ranges)), 5)
-      ∷ (not (refsGood (atOrdinal (starts t (step k vs ns .earlier))) (body k) vs), 6)
+      ∷ (not (refsGood (isOrdinal (length (step k vs ns .earlier))) (body k) vs), 6)
+      ∷ (not (refsGood (atOrdinal (starts t (step k vs ns .earlier))) (body k) vs), 10)
       ∷ (step k vs ns .full, 7)
       ∷ (ltb limit (front t + sizes (step k vs ns .nodes)), 8) ∷ []
 
-  mirrored : Mirrors 3 (recordFaults t b ns k vs) checks
+  mirrored : Mirrors (recordFaults t b ns k vs) checks
   unfolding checks
   mirrored =
       let m = tests-not (step k vs ns .placed) (tests-placed b k vs ns f) in (
@@ -355,17 +393,55 @@ module _ (t : Table) (b : ℕ) (ns : List Node) (k : Kind) (vs : List ℕ) (f : 
         m .right,
         λ e.
             let p : step k vs ns .placed ≡ true = not-false (step k vs ns .placed) e in
-            let d = tests-not (all (step k vs ns .ranges)) (tests-ranged k vs ns p) in
-            let r = tests-not (refsGood (atOrdinal (starts t (step k vs ns .earlier))) (body k) vs) (tests-refs t vs k ns p) in
+            let d = tests-not (all (step k vs ns .ranges)) (tests-every (step k vs ns .ranges) (Ranged k vs (newest ns)) (tests-ranged k vs ns p)) in
+            let w = tests-not (refsGood (isOrdinal (length (step k vs ns .earlier))) (body k) vs) (tests-refs (λ ns. isOrdinal (length ns)) Backward tests-backward vs k ns p) in
+            let r = tests-not (refsGood (atOrdinal (starts t (step k vs ns .earlier))) (body k) vs) (tests-refs (λ ns. atOrdinal (starts t ns)) Names (tests-names t) vs k ns p) in
             let l = tests-full k vs ns p in
             let x = tests-ltb limit (front t + sizes (added k vs ns)) in
-            (m .wrong e, (omega arith, refl, d .right, λ e. (d .wrong e, (omega arith, refl, r .right, λ e. (r .wrong e, (omega arith, refl, l .right, λ e. (l .wrong e, (omega arith, refl, x .right, λ e. (x .wrong e, tt))))))))),
+            (m .wrong e, (omega arith, refl, d .right, λ e. (d .wrong e, (omega arith, refl, w .right, λ e. (w .wrong e, (omega arith, refl, r .right, λ e. (r .wrong e, (omega arith, refl, l .right, λ e. (l .wrong e, (omega arith, refl, x .right, λ e. (x .wrong e, tt))))))))))),
       )
 
   pub faultless : (fault t ns k vs ≡ 0) ↔ NoneOf (recordFaults t b ns k vs)
   unfolding fault checks
-  faultless = none-of 3 (recordFaults t b ns k vs) checks mirrored
+  faultless = none-of (recordFaults t b ns k vs) checks mirrored
 
   pub faulty : (n : ℕ) → 0 < n → (fault t ns k vs ≡ n) ↔ FirstOf n (recordFaults t b ns k vs)
   unfolding fault checks
-  faulty n z = first-of 3 (recordFaults t b ns k vs) checks mirrored n z
+  faulty n z = first-of (recordFaults t b ns k vs) checks mirrored n z
+
+  -- ---- where
+
+  -- a bad field is one of a record that stands where it may
+  bad-placed : FirstOf 5 (recordFaults t b ns k vs) → (step k vs ns .placed ≡ true) × (all (step k vs ns .ranges) ≡ false)
+  bad-placed (a, d) = by (step k vs ns .placed) refl (all (step k vs ns .ranges)) refl
+    where
+      by : (x : Bool) → step k vs ns .placed ≡ x → (y : Bool) → all (step k vs ns .ranges) ≡ y → (x ≡ true) × (y ≡ false)
+      by false e y i = absurd (a (tests-placed b k vs ns f .wrong e))
+      by true e true i = absurd (d (tests-every (step k vs ns .ranges) (Ranged k vs (newest ns)) (tests-ranged k vs ns e) .right i))
+      by true e false i = (refl, refl)
+
+  -- of the first condition that does not hold, the field is the first bad one
+  bad-at : step k vs ns .placed ≡ true → (j : ℕ) → FirstNot j (Ranged k vs (newest ns)) → badIn k (step k vs ns .ranges) ≡ at (places k) j
+  bad-at a j i =
+      first-bad 1 (body k) (step k vs ns .ranges) (Ranged k vs (newest ns)) j (tests-ranged k vs ns a) (few-ranged k vs (newest ns)) i ∙ ap (λ xs. at xs j) (places-body k)
+
+  pub fault-where : (n p : ℕ) → FirstOf n (recordFaults t b ns k vs) → Where n ns k vs p (p + faultAt n k (step k vs ns .ranges))
+  unfolding faultAt
+  fault-where n p d = by (eqb n 5) refl
+    where
+      by : (x : Bool) → eqb n 5 ≡ x
+          → pick x ((j : ℕ) × FirstNot j (Ranged k vs (newest ns)) × (p + pick x (badIn k (step k vs ns .ranges)) 0 ≡ p + at (places k) j)) (p + pick x (badIn k (step k vs ns .ranges)) 0 ≡ p)
+      by true e =
+          let (a, z) = bad-placed (rw (eqb-true n 5 e) at d) in
+          let (j, i) = first-not (step k vs ns .ranges) (Ranged k vs (newest ns)) (tests-ranged k vs ns a) z in
+          (j, i, ap (λ x. p + x) (bad-at a j i))
+      by false e = add-zero p
+
+  pub fault-place : (n p place : ℕ) → FirstOf n (recordFaults t b ns k vs) → Where n ns k vs p place → p + faultAt n k (step k vs ns .ranges) ≡ place
+  unfolding faultAt
+  fault-place n p place d w = by (eqb n 5) refl w
+    where
+      by : (x : Bool) → eqb n 5 ≡ x → pick x ((j : ℕ) × FirstNot j (Ranged k vs (newest ns)) × (place ≡ p + at (places k) j)) (place ≡ p)
+          → p + pick x (badIn k (step k vs ns .ranges)) 0 ≡ place
+      by true e (j, i, z) = ap (λ x. p + x) (bad-at (bad-placed (rw (eqb-true n 5 e) at d) .0) j i) ∙ sym z
+      by false e z = add-zero p ∙ sym z

@@ -15,7 +15,8 @@ use Rattle.format.specs.Node.{Node, node, bytes, nodeAt}
 use Rattle.format.specs.Kind.{Kind, Processor, Resource, Cache, Memory, Acpi, Pci, Rintc, Domain, Matrix, Initiator, Target, Cell, Side, Handle, kindNumber, body}
 use Rattle.format.specs.Normal.{call}
 use Rattle.format.specs.Read.{sound}
-use Rattle.format.specs.Field.{firstBad, badField}
+use Rattle.format.specs.Field.{firstBad, badIn, badField}
+use Rattle.format.specs.Recipe.{faultAt}
 use Rattle.laws.specs.Numbers.{numbers}
 use Rattle.laws.specs.Offsets.{fieldsAt, fixedAt}
 use Rattle.laws.proofs.Offsets.{fields-at, fixed-at}
@@ -65,6 +66,30 @@ all-bad p (i ∷ is) (t ∷ ts) h = rw (all-first t ts, all-bad (p + wide i) is 
     by : (t : Bool) → both t (eqb (firstBad (p + wide i) is ts) 0) ≡ eqb (pick t (firstBad (p + wide i) is ts) p) 0
     by true = refl
     by false = rw (ne-eqb p 0 (λ e. omega arith))
+
+-- it is not past the end of the layout
+bad-within : (p : ℕ) (is : List Item) (ts : List Bool) → firstBad p is ts ≤ p + width is
+unfolding firstBad width
+bad-within p is [] = omega arith
+bad-within p [] (t ∷ ts) = by t (bad-within p [] ts)
+  where
+    by : (t : Bool) → firstBad p [] ts ≤ p + 0 → pick t (firstBad p [] ts) p ≤ p + 0
+    by true h = h
+    by false h = omega arith
+bad-within p (i ∷ is) (t ∷ ts) = by t (bad-within (p + wide i) is ts)
+  where
+    by : (t : Bool) → firstBad (p + wide i) is ts ≤ p + wide i + width is → pick t (firstBad (p + wide i) is ts) p ≤ p + (wide i + width is)
+    by true h = omega arith
+    by false h = omega arith
+
+-- nor is what is refused of a record past the end of the record
+pub fault-within : (n : ℕ) (k : Kind) (ts : List Bool) → faultAt n k ts ≤ 1 + width (body k)
+unfolding faultAt
+fault-within n k ts = by (eqb n 5)
+  where
+    by : (x : Bool) → pick x (badIn k ts) 0 ≤ 1 + width (body k)
+    by true = bad-within 1 (body k) ts
+    by false = omega arith
 
 pub good-fields : (n : Node) → all (ranges (n .form) (n .values)) ≡ eqb (badField n) 0
 unfolding badField

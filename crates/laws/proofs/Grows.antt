@@ -11,11 +11,12 @@ use Rattle.format.specs.Bytes.{both, all, at}
 use Rattle.format.specs.Layout.{fld, to, arities, refsGood}
 use Rattle.format.specs.Table.{Table, pptt, srat, hmat, front, limit}
 use Rattle.format.specs.Form.{Form, processor, cache, memory, acpi, pci, rintc, domain, matrix, side, layout, ranges}
-use Rattle.format.specs.Node.{Node, node, Entry, sizes, starts, atOrdinal}
+use Rattle.format.specs.Node.{Node, node, Entry, sizes, starts, isOrdinal, atOrdinal}
 use Rattle.format.specs.Kind.{Kind, Processor, Resource, Cache, Memory, Acpi, Pci, Rintc, Domain, Matrix, Initiator, Target, Cell, Side, Handle, body}
 use Rattle.format.specs.Recipe.{Newest, aProcessor, aMatrix, aSide, other, newestAs, newest, resource, handle, setting, unset, step, added, fault}
 use Rattle.laws.proofs.Finds.{never, none-first}
 use Rattle.laws.proofs.Lays.{Fit, both-true, fit-length}
+use Rattle.laws.proofs.Links.{refs-backward}
 use Rattle.laws.proofs.Shapes.{size-below, plain-fld, plain-matrix}
 use Rattle.laws.proofs.Fits.{second, third, fix-fit, zero-fit, fld-fit, wider, fit-append, good-append, replicate-snoc, plain-good, fit-same, set-front, set-behind}
 use Rattle.laws.proofs.Good.{GoodNode, Good}
@@ -34,13 +35,16 @@ unfolding fault
 passed t ns k vs h =
     let s = step k vs ns in
     let good = refsGood (atOrdinal (starts t (s .earlier))) (body k) vs in
+    let back = refsGood (isOrdinal (length (s .earlier))) (body k) vs in
     let n = front t + sizes (s .nodes) in
-    let (a, (b, (c, (d, (e, end))))) = none-first ((not (s .placed), 4) ∷ (not (all (s .ranges)), 5) ∷ (not good, 6) ∷ (s .full, 7) ∷ (ltb limit n, 8) ∷ []) (search arith) h in
+    let (a, (b, (w, (c, (d, (e, end)))))) = none-first ((not (s .placed), 4) ∷ (not (all (s .ranges)), 5) ∷ (not back, 6) ∷ (not good, 10) ∷ (s .full, 7) ∷ (ltb limit n, 8) ∷ []) (search arith) h in
     record { place = not-false (s .placed) a; field = not-false (all (s .ranges)) b; refs = not-false good c; room = d; short = ltb-false limit n e }
 
 pub no-fault : (t : Table) (ns : List Node) (k : Kind) (vs : List ℕ) → Passed t ns k vs → fault t ns k vs ≡ 0
 unfolding fault
-no-fault t ns k vs p = rw (p .place, p .field, p .refs, p .room, le-ltb limit (front t + sizes (added k vs ns)) (p .short))
+no-fault t ns k vs p =
+    let back = refs-backward t (step k vs ns .earlier) (body k) vs (p .refs) in
+    rw (p .place, p .field, back, p .refs, p .room, le-ltb limit (front t + sizes (added k vs ns)) (p .short))
 
 -- ---- the newest node
 

@@ -16,10 +16,10 @@ use Rattle.format.specs.Form.{Form, layout, ranges}
 use Rattle.format.specs.Row.{Row, rowOf, formIn, known}
 use Rattle.format.specs.Node.{Entry, atPlace}
 use Rattle.format.specs.Read.{signed, lengthIn, own, headFault, judgeHead, typeIn, sound, recordFault}
-use Rattle.laws.specs.Words.{FirstOf, NoneOf, Fixed, References}
+use Rattle.laws.specs.Words.{FirstOf, NoneOf, Rules, Fixed, References}
 use Rattle.laws.specs.Demand1Read.{Signed, Long, headerFaults, Known, Sound, Starts, bodyFaults, Headed, AtHeader, RowIs}
 use Rattle.laws.proofs.Finds.{never, All, found-test}
-use Rattle.laws.proofs.Words.{Tests, found-none, among-none, among-cases, among-more, tests-leb, tests-eqb, tests-not, tests-both, tests-as, tests-same, tests-fixed, tests-rules, tests-references, Mirrors, none-of, first-of, first-one, first-none, first-in}
+use Rattle.laws.proofs.Words.{Tests, found-none, among-none, among-cases, among-more, tests-leb, tests-eqb, tests-not, tests-both, tests-as, tests-same, tests-fixed, tests-every, tests-rules, tests-references, Mirrors, none-of, first-of, first-one, first-none, first-in}
 use Rattle.laws.proofs.Links.{Rising}
 use Rattle.laws.proofs.Masks.{row-fits, known-row}
 
@@ -56,7 +56,7 @@ module _ (b : List ℕ) where
         ∷ (23, sum (own b) % 256 ≡ 0 → ⊥)
         ∷ (24, (t : Table) × Signed t b × (Fixed (tail t) b 36 → ⊥)) ∷ []
 
-    three-mirrored : Mirrors 21 spelled three
+    three-mirrored : Mirrors spelled three
     unfolding three
     three-mirrored =
         let l = all (leb (front t) (lengthIn b) ∷ leb (lengthIn b) (length b) ∷ leb (lengthIn b) limit ∷ []) in
@@ -69,11 +69,11 @@ module _ (b : List ℕ) where
 
     spelled-none : (headFault t b ≡ 0) ↔ NoneOf spelled
     unfolding headFault three
-    spelled-none = none-of 21 spelled three three-mirrored
+    spelled-none = none-of spelled three three-mirrored
 
     spelled-first : (n : ℕ) → 0 < n → (headFault t b ≡ n) ↔ FirstOf n spelled
     unfolding headFault three
-    spelled-first n z = first-of 21 spelled three three-mirrored n z
+    spelled-first n z = first-of spelled three three-mirrored n z
 
   abbrev pub HeaderOutcome : Answer Table → Type 0
   HeaderOutcome (refused n p) = AtHeader n b p
@@ -154,7 +154,7 @@ module _ (t : Table) (rev mask : ℕ) (bs : List ℕ) where
 
 tests-sound : (f : Form) (bs : List ℕ) → Tests (sound f bs) (Sound f bs)
 unfolding sound
-tests-sound f bs = tests-both (fixedOk (layout f) bs) (all (ranges f (fields (layout f) bs))) (tests-fixed bs (layout f) 0) (tests-rules f (fields (layout f) bs))
+tests-sound f bs = tests-both (fixedOk (layout f) bs) (all (ranges f (fields (layout f) bs))) (tests-fixed bs (layout f) 0) (tests-every (ranges f (fields (layout f) bs)) (Rules f (fields (layout f) bs)) (tests-rules f (fields (layout f) bs)))
 
 -- e starts at v, and has the type ty
 abbrev Starting : ℕ → ℕ → Entry → List Entry → Type 0
@@ -189,7 +189,7 @@ module _ (t : Table) (rev mask p : ℕ) (es : List Entry) (rising : Rising p es)
     two : List (Bool × ℕ)
     two = (not (sound (formIn r bs) bs), 26) ∷ (not (refsGood (atPlace es) (layout (formIn r bs)) (fields (layout (formIn r bs)) bs)), 27) ∷ []
 
-    two-mirrored : Mirrors 25 (bodyFaults t rev mask es bs) two
+    two-mirrored : Mirrors (bodyFaults t rev mask es bs) two
     unfolding two
     two-mirrored =
         let f = formIn r bs in
@@ -210,7 +210,7 @@ module _ (t : Table) (rev mask p : ℕ) (es : List Entry) (rising : Rising p es)
     where
       by : (o : Option Row) → rowIn t rev mask bs ≡ o → (recordFault (atPlace es) o bs ≡ 0) ↔ NoneOf (bodyFaults t rev mask es bs)
       by none e = (λ z. unknown-none e, λ h. refl)
-      by (some r) e = none-of 25 (bodyFaults t rev mask es bs) (two r e) (two-mirrored r e)
+      by (some r) e = none-of (bodyFaults t rev mask es bs) (two r e) (two-mirrored r e)
 
   pub body-first : (n : ℕ) → 0 < n → (recordFault (atPlace es) (rowIn t rev mask bs) bs ≡ n) ↔ FirstOf n (bodyFaults t rev mask es bs)
   unfolding recordFault two
@@ -218,4 +218,4 @@ module _ (t : Table) (rev mask p : ℕ) (es : List Entry) (rising : Rising p es)
     where
       by : (o : Option Row) → rowIn t rev mask bs ≡ o → (recordFault (atPlace es) o bs ≡ n) ↔ FirstOf n (bodyFaults t rev mask es bs)
       by none e = (λ z. absurd (omega arith), λ h. absurd (first-none (bodyFaults t rev mask es bs) n h (unknown-none e)))
-      by (some r) e = first-of 25 (bodyFaults t rev mask es bs) (two r e) (two-mirrored r e) n l
+      by (some r) e = first-of (bodyFaults t rev mask es bs) (two r e) (two-mirrored r e) n l

@@ -32,6 +32,7 @@ pub mod Tables
 pub mod Judges
 pub mod Readers
 pub mod Fields
+pub mod Before
 pub mod Readings
 pub mod Outs
 pub mod Cases

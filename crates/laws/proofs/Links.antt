@@ -5,13 +5,13 @@ use mathlib.Core.List.{List, [], _∷_, _++_}
 use mathlib.Core.Bool.{Bool, true, false}
 use native.Mathlib.Omega.{arith}
 use lib.ListN.{length, take, drop, take-append-drop}
-use lib.Dec.{eqb}
-use borrow.Author.Tests.{eq-eqb, ne-eqb, eqb-true}
-use Rattle.format.specs.Bytes.{pick}
+use lib.Dec.{eqb, leb}
+use borrow.Author.Tests.{eq-eqb, ne-eqb, eqb-true, le-leb, leb-true}
+use Rattle.format.specs.Bytes.{pick, both}
 use Rattle.format.specs.Layout.{Item, fix, fld, two, to, orNone, arity, arities, number, isGood, refsGood}
 use Rattle.format.specs.Table.{Table, pptt, srat, hmat, front}
 use Rattle.format.specs.Form.{Form, processor, cache, memory, acpi, pci, rintc, domain, matrix, side, size}
-use Rattle.format.specs.Node.{Node, Entry, sizes, starts, atPlace, atOrdinal, placeOf, ordinalOf}
+use Rattle.format.specs.Node.{Node, Entry, sizes, starts, atPlace, isOrdinal, atOrdinal, placeOf, ordinalOf}
 use Rattle.laws.specs.Rename.{renamed, rename}
 use Rattle.laws.proofs.Lays.{both-true, rest-length, item-renamed}
 
@@ -95,7 +95,60 @@ ordinal-zero b (e ∷ es) r =
     let l : 0 < e .offset = rising-pos (e .offset) es (r .1) in
     rw (ne-eqb (e .offset) 0 (λ z. omega arith)) (ordinal-zero (e .offset) es (r .1))
 
--- ---- the starts of nodes rise
+-- ---- what names a record of some type names a record
+
+within : (n k t : ℕ) → isOrdinal n k t ≡ true → (1 ≤ k) × (k ≤ n)
+unfolding isOrdinal
+within n k t h = let p = both-true (leb 1 k) (leb k n) h in (leb-true 1 k (p .0), leb-true k n (p .1))
+
+is-within : (n k t : ℕ) → 1 ≤ k → k ≤ n → isOrdinal n k t ≡ true
+unfolding isOrdinal
+is-within n k t l m = rw (le-leb 1 k l, le-leb k n m)
+
+is-ordinal : (es : List Entry) (k t : ℕ) → atOrdinal es k t ≡ true → isOrdinal (length es) k t ≡ true
+unfolding atOrdinal
+is-ordinal [] k t h = let z : _≡_ {A = ℕ} 0 1 = cc in absurd (omega arith)
+is-ordinal (e ∷ es) k t h = by (eqb (suc (length es)) k) refl h (is-ordinal es k t)
+  where
+    by : (x : Bool) → eqb (suc (length es)) k ≡ x → pick x (eqb (e .type) t) (atOrdinal es k t) ≡ true → (atOrdinal es k t ≡ true → isOrdinal (length es) k t ≡ true)
+        → isOrdinal (suc (length es)) k t ≡ true
+    by true q h ih = is-within (suc (length es)) k t (omega (arith, eqb-true (suc (length es)) k q)) (omega (arith, eqb-true (suc (length es)) k q))
+    by false q h ih = let l = within (length es) k t (ih h) in is-within (suc (length es)) k t (l .0) (omega (arith, l .1))
+
+module _ (ok ok′ : ℕ → ℕ → Bool) (weaker : (v t : ℕ) → ok v t ≡ true → ok′ v t ≡ true) where
+  item-weaker : (i : Item) (x : ℕ) → isGood ok i x ≡ true → isGood ok′ i x ≡ true
+  item-weaker (fix w v) x h = refl
+  item-weaker (fld w) x h = refl
+  item-weaker (two w k) x h = refl
+  item-weaker (to t) x h = weaker x t h
+  item-weaker (orNone t) x h = by (eqb x 0) h
+    where
+      by : (y : Bool) → pick y true (ok x t) ≡ true → pick y true (ok′ x t) ≡ true
+      by true h = refl
+      by false h = weaker x t h
+
+  -- references that are good are so by a weaker test
+  refs-weaker : (is : List Item) (vs : List ℕ) → refsGood ok is vs ≡ true → refsGood ok′ is vs ≡ true
+  unfolding refsGood
+  refs-weaker [] vs h = refl
+  refs-weaker (i ∷ is) vs h =
+      let p = both-true (isGood ok i (number i vs)) (refsGood ok is (drop (arity i) vs)) h in
+      rw (item-weaker i (number i vs) (p .0)) (refs-weaker is (drop (arity i) vs) (p .1))
+
+-- ---- the starts of nodes
+
+pub length-starts : (t : Table) (ns : List Node) → length (starts t ns) ≡ length ns
+unfolding starts
+length-starts t [] = refl
+length-starts t (n ∷ ns) = rw (length-starts t ns)
+
+-- references that name nodes of the right types name nodes
+pub refs-backward : (t : Table) (ns : List Node) (is : List Item) (vs : List ℕ) → refsGood (atOrdinal (starts t ns)) is vs ≡ true → refsGood (isOrdinal (length ns)) is vs ≡ true
+refs-backward t ns is vs h =
+    let es = starts t ns in
+    rw (← length-starts t ns) (refs-weaker (atOrdinal es) (isOrdinal (length es)) (is-ordinal es) is vs h)
+
+-- they rise
 
 pub size-pos : (f : Form) → 0 < size f
 size-pos (processor n) = omega arith

@@ -18,13 +18,13 @@ use Rattle.format.specs.Kind.{Kind, kindOf, body}
 use Rattle.format.specs.Recipe.{Calls, done, badKind, cutOff, called, cutAs, skip, cut, newest, added, fault, Meaning, means, since, run, tableOf, headed, meaning}
 use Rattle.format.specs.Build.{lengthOf, fitting, build}
 use Rattle.laws.specs.Words.{FirstOf, NoneOf}
-use Rattle.laws.specs.Demand1.{Belongs, headFaults, recordFaults, fieldsAt, endOf, faults, Headed, OfKind, Reaches, start, next, Comes, Says, AtHead, BadKind, AtRecord, NoRoom, Earned, Exactly, One}
+use Rattle.laws.specs.Demand1.{Belongs, headFaults, recordFaults, fieldsAt, endOf, Where, faults, Headed, OfKind, Reaches, start, next, Comes, Says, AtHead, BadKind, AtRecord, NoRoom, Earned, Exactly, One}
 use Rattle.laws.proofs.Finds.{found-test}
 use Rattle.laws.proofs.Calls.{cut-skip}
 use Rattle.laws.proofs.Settings.{table-back}
 use Rattle.laws.proofs.Grows.{passed}
 use Rattle.laws.proofs.Words.{found-none, first-one, first-none, Numbers, first-in}
-use Rattle.laws.proofs.Faults.{kind-then, kind-none, kind-is, Follows, follows-next, faultless, faulty}
+use Rattle.laws.proofs.Faults.{kind-then, kind-none, kind-is, Follows, follows-next, faultless, faulty, fault-where, fault-place}
 
 -- ---- cutting at a place
 
@@ -125,20 +125,24 @@ module _ (h : Head) (r : List ℕ) (hd : Headed (h .table) r) where
       unfolding run
       run-cut c = rw (rest-cut (h .table) r p k o l c)
 
-      run-whole : (m : ℕ) → (length r < endOf p k → ⊥) → FirstOf m (recordFaults (h .table) (at r q) ns k (fieldsAt r p k)) → run h y ns (rest (h .table) r p) ≡ refused m p
+      run-whole : (m place : ℕ) → (length r < endOf p k → ⊥) → FirstOf m (recordFaults (h .table) (at r q) ns k (fieldsAt r p k)) → Where m ns k (fieldsAt r p k) p place
+          → run h y ns (rest (h .table) r p) ≡ refused m place
       unfolding run rest
-      run-whole m w d =
+      run-whole m place w d u =
           let z : 0 < m = first-in (λ n. 0 < n) (recordFaults (h .table) (at r q) ns k (fieldsAt r p k)) m d (omega arith) in
           let e : fault (h .table) ns k (fieldsAt r p k) ≡ m = faulty (h .table) (at r q) ns k (fieldsAt r p k) f m z .1 d in
-          ap (run h y ns) (rest-whole (h .table) r p k o l w) ∙ rw (e, ne-eqb m 0 (λ i. omega arith))
+          ap (run h y ns) (rest-whole (h .table) r p k o l w) ∙ rw (e, ne-eqb m 0 (λ i. omega arith), fault-place (h .table) (at r q) ns k (fieldsAt r p k) f m p place d u)
 
-      run-faulty : (m : ℕ) → FirstOf m (faults (h .table) r q ns p k) → run h y ns (rest (h .table) r p) ≡ refused m p
-      run-faulty m d = by (eqb m 3) refl d
+      run-faulty : (m place : ℕ) → FirstOf m (faults (h .table) r q ns p k) → Where m ns k (fieldsAt r p k) p place → run h y ns (rest (h .table) r p) ≡ refused m place
+      run-faulty m place d u = by (eqb m 3) refl d
         where
           by : (c : Bool) → eqb m 3 ≡ c → pick c (length r < endOf p k) ((length r < endOf p k → ⊥) × FirstOf m (recordFaults (h .table) (at r q) ns k (fieldsAt r p k)))
-              → run h y ns (rest (h .table) r p) ≡ refused m p
-          by true e d = rw (eqb-true m 3 e) (run-cut d)
-          by false e d = run-whole m (d .0) (d .1)
+              → run h y ns (rest (h .table) r p) ≡ refused m place
+          by true e d =
+              let i = eqb-true m 3 e in
+              let z : place ≡ p = rw i at u in
+              rw (i, z) (run-cut d)
+          by false e d = run-whole m place (d .0) (d .1) u
 
   -- good records are passed
   reach-run : {q p : ℕ} {ns : List Node} → Reaches (h .table) r q ns p → (y : ℕ) × (run h 0 [] (rest (h .table) r 28) ≡ run h y ns (rest (h .table) r p))
@@ -160,8 +164,9 @@ module _ (h : Head) (r : List ℕ) (hd : Headed (h .table) r) where
       here : Comes (h .table) r q ns p
       here = record { head = hd; reached = x; here = l }
 
-      at-record : (k : Kind) → OfKind (h .table) (at r p) k → (n : ℕ) → FirstOf n (faults (h .table) r q ns p k) → Outcome h r (run h y ns (rest (h .table) r p))
-      at-record k o n d = rw (run-faulty y q p ns x k o n d) (inr (h .table, q, ns, k, here, o, d))
+      at-record : (k : Kind) → OfKind (h .table) (at r p) k → (n place : ℕ) → FirstOf n (faults (h .table) r q ns p k) → Where n ns k (fieldsAt r p k) p place
+          → Outcome h r (run h y ns (rest (h .table) r p))
+      at-record k o n place d u = rw (run-faulty y q p ns x k o n place d u) (inr (h .table, q, ns, p, k, here, o, d, u))
 
       -- a whole record has a first fault, or none
       at-whole : (k : Kind) → OfKind (h .table) (at r p) k → (length r < endOf p k → ⊥)
@@ -180,14 +185,14 @@ module _ (h : Head) (r : List ℕ) (hd : Headed (h .table) r) where
               let z : 0 < n = omega (arith, eqb-false n 0 e) in
               let d = faulty (h .table) (at r q) ns k (fieldsAt r p k) f n z .0 refl in
               let m : 3 < n = first-in (λ n. 3 < n) (recordFaults (h .table) (at r q) ns k (fieldsAt r p k)) n d (omega arith) in
-              at-record k o n (rw (ne-eqb n 3 (λ i. omega arith)) (w, d))
+              at-record k o n _ (rw (ne-eqb n 3 (λ i. omega arith)) (w, d)) (fault-where (h .table) (at r q) ns k (fieldsAt r p k) f n p d)
 
       at-kind : (k : Kind) → OfKind (h .table) (at r p) k
           → (NoneOf (faults (h .table) r q ns p k) → Outcome h r (run h y ns (rest (h .table) r p))) → Outcome h r (run h y ns (rest (h .table) r p))
       at-kind k o good = by (ltb (length r) (endOf p k)) refl
         where
           by : (c : Bool) → ltb (length r) (endOf p k) ≡ c → Outcome h r (run h y ns (rest (h .table) r p))
-          by true e = at-record k o 3 (ltb-true (length r) (endOf p k) e)
+          by true e = at-record k o 3 p (ltb-true (length r) (endOf p k) e) refl
           by false e = at-whole k o (λ i. omega (arith, ltb-false (length r) (endOf p k) e)) good
 
   -- j: as many bytes may be left
@@ -227,7 +232,7 @@ module _ (r : List ℕ) where
   head-outcome = by (eqb (at r 0) 1) refl (ltb (length r) 28) refl (tableOf (at r 1)) refl
     where
       by : (x : Bool) → eqb (at r 0) 1 ≡ x → (y : Bool) → ltb (length r) 28 ≡ y → (o : Option Table) → tableOf (at r 1) ≡ o
-          → HeadOutcome (unless (firstOf ((not x, 1) ∷ (y, 3) ∷ [])) 0 (andThen (orRefused 5 0 o) (λ t. given (headOf t (part r 2 26)))))
+          → HeadOutcome (unless (firstOf ((not x, 1) ∷ (y, 3) ∷ [])) 0 (andThen (orRefused 5 1 o) (λ t. given (headOf t (part r 2 26)))))
       by false e y d o f = (eqb-false (at r 0) 1 e, refl)
       by true e true d o f = ((λ z. z (eqb-true (at r 0) 1 e), ltb-true (length r) 28 d), refl)
       by true e false d none f = ((λ z. z (eqb-true (at r 0) 1 e), (λ z. omega (arith, ltb-false (length r) 28 d), no-table f)), refl)
@@ -262,7 +267,7 @@ module _ (r : List ℕ) where
 -- ---- the whole recipe
 
 module _ (r : List ℕ) where
-  -- refused up to 8
+  -- refused before the room is looked at
   abbrev Refused : ℕ → ℕ → Type 0
   Refused n p = AtHead n r p ⊎ Faulted r n p
 
@@ -293,10 +298,10 @@ module _ (r : List ℕ) where
       let h = headOf t (part r 2 26) in
       let (y, e) = reach-run h r (c .head) (c .reached) in
       meaning-run t (c .head) ∙ (e ∙ (run-bad h r (c .head) y q p ns (c .reached) (c .here) b ∙ rw z))
-  refuses n p (inr (inr (t, q, ns, k, c, o, d))) =
+  refuses n place (inr (inr (t, q, ns, p, k, c, o, d, u))) =
       let h = headOf t (part r 2 26) in
       let (y, e) = reach-run h r (c .head) (c .reached) in
-      meaning-run t (c .head) ∙ (e ∙ run-faulty h r (c .head) y q p ns (c .reached) k o n d)
+      meaning-run t (c .head) ∙ (e ∙ run-faulty h r (c .head) y q p ns (c .reached) k o n place d u)
 
   gives : (m : Meaning) → Says r m → meaning r ≡ given m
   unfolding run
@@ -343,11 +348,15 @@ module _ (r : List ℕ) (room : ℕ) where
   head-number : (P : ℕ → Type 0) (n p : ℕ) → Numbers P (headFaults r) → AtHead n r p → P n
   head-number P n p a h = first-in P (headFaults r) n (h .0) a
 
-  record-number : (n p : ℕ) → AtRecord n r p → (3 ≤ n) × (n ≤ 8)
-  record-number n p (t, q, ns, k, c, o, d) = first-in (λ m. (3 ≤ m) × (m ≤ 8)) (faults t r q ns p k) n d (omega arith)
+  -- the numbers of a record's faults: 3 to 8 and 10
+  abbrev Recorded : ℕ → Type 0
+  Recorded n = (3 ≤ n) × (n ≤ 10) × (n ≡ 9 → ⊥)
 
-  earned-number : (n p : ℕ) → Earned r room (refused n p) → (1 ≤ n) × (n ≤ 9)
-  earned-number n p (inl a) = head-number (λ m. (1 ≤ m) × (m ≤ 9)) n p (omega arith) a
+  record-number : (n p : ℕ) → AtRecord n r p → Recorded n
+  record-number n place (t, q, ns, p, k, c, o, d, u) = first-in Recorded (faults t r q ns p k) n d (omega arith)
+
+  earned-number : (n p : ℕ) → Earned r room (refused n p) → (1 ≤ n) × (n ≤ 10)
+  earned-number n p (inl a) = head-number (λ m. (1 ≤ m) × (m ≤ 10)) n p (omega arith) a
   earned-number n p (inr (inl b)) = omega (arith, b .0)
   earned-number n p (inr (inr (inl c))) = omega (arith, record-number n p c)
   earned-number n p (inr (inr (inr d))) = omega (arith, d .0)
@@ -356,7 +365,7 @@ module _ (r : List ℕ) (room : ℕ) where
   one = record { earned = earned; only = only; numbers = λ n p e. earned-number n p (when (refused n p) .0 e) }
 
   -- a number that is given behind the head alone, or there too
-  of-record : (n p : ℕ) → (3 ≤ n) × (n ≤ 8) → (build r room ≡ refused n p) ↔ (AtHead n r p ⊎ AtRecord n r p)
+  of-record : (n p : ℕ) → Recorded n → (build r room ≡ refused n p) ↔ (AtHead n r p ⊎ AtRecord n r p)
   of-record n p l =
       (λ e. by (when (refused n p) .0 e), ⊎-elim (λ a. only (refused n p) (inl a)) (λ c. only (refused n p) (inr (inr (inl c)))))
     where
@@ -364,9 +373,9 @@ module _ (r : List ℕ) (room : ℕ) where
       by (inl a) = inl a
       by (inr (inl b)) = absurd (omega (arith, b .0))
       by (inr (inr (inl c))) = inr c
-      by (inr (inr (inr d))) = absurd (omega (arith, d .0))
+      by (inr (inr (inr d))) = absurd (l .2 (d .0))
 
-  not-head : (n p : ℕ) → (3 ≤ n) × (n ≤ 8) → Numbers (λ m. m ≡ n → ⊥) (headFaults r) → (build r room ≡ refused n p) ↔ AtRecord n r p
+  not-head : (n p : ℕ) → Recorded n → Numbers (λ m. m ≡ n → ⊥) (headFaults r) → (build r room ≡ refused n p) ↔ AtRecord n r p
   not-head n p l d = (λ e. ⊎-elim (λ a. absurd (head-number (λ m. m ≡ n → ⊥) n p d a refl)) (λ c. c) (of-record n p l .0 e), λ c. of-record n p l .1 (inr c))
 
   no-head : (p : ℕ) → Earned r room (refused 1 p) → AtHead 1 r p
@@ -384,7 +393,7 @@ module _ (r : List ℕ) (room : ℕ) where
   no-room : (p : ℕ) → Earned r room (refused 9 p) → NoRoom r room p
   no-room p (inl a) = absurd (head-number (λ m. m ≡ 9 → ⊥) 9 p (omega arith) a refl)
   no-room p (inr (inl b)) = absurd (omega (arith, b .0))
-  no-room p (inr (inr (inl c))) = absurd (omega (arith, record-number 9 p c))
+  no-room p (inr (inr (inl c))) = absurd (record-number 9 p c .2 refl)
   no-room p (inr (inr (inr d))) = d .1
 
   pub exactly : Exactly r room
@@ -395,7 +404,8 @@ module _ (r : List ℕ) (room : ℕ) where
         cut = λ p. of-record 3 p (omega arith);
         misplaced = λ p. not-head 4 p (omega arith) (omega arith);
         badField = λ p. of-record 5 p (omega arith);
-        badRef = λ p. not-head 6 p (omega arith) (omega arith);
+        forward = λ p. not-head 6 p (omega arith) (omega arith);
+        wrongKind = λ p. not-head 10 p (omega arith) (omega arith);
         fullNode = λ p. not-head 7 p (omega arith) (omega arith);
         tooLong = λ p. not-head 8 p (omega arith) (omega arith);
         noRoom = λ p. (λ e. no-room p (when (refused 9 p) .0 e), λ d. only (refused 9 p) (inr (inr (inr (refl, d)))));

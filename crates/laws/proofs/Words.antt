@@ -1,20 +1,21 @@
 -- Tests and the conditions that they test: one law for each way to put tests together, and for the first of a list.
 use mathlib.Core.Path.{_≡_, refl, sym, _∙_}
 use mathlib.Core.Logic.{_↔_, _⊎_, inl, inr}
-use Prim.Native.Nat.{ℕ, _+_, _%_, _≤_, _<_}
+use Prim.Native.Nat.{ℕ, zero, suc, _+_, _%_, _≤_, _<_}
 use mathlib.Core.List.{List, [], _∷_, _++_}
 use mathlib.Core.Bool.{Bool, true, false, not}
 use mathlib.Core.Option.{none, some}
 use native.Mathlib.Omega.{arith}
-use lib.ListN.{take, drop}
+use lib.ListN.{length, take, drop}
 use lib.Seq.{drop-drop}
 use lib.Dec.{eqb, leb, ltb}
 use borrow.Author.Tests.{eqb-true, eqb-false, leb-true, leb-false, ltb-true, ltb-false}
-use Rattle.format.specs.Bytes.{pick, both, all, firstOf, find, at, value, part, same, bits}
-use Rattle.format.specs.Layout.{Item, fix, fld, two, to, orNone, fixedOk, isGood, refsGood}
-use Rattle.format.specs.Form.{Form, processor, cache, memory, acpi, pci, rintc, domain, matrix, side, kept, cacheAttributes, matrixFlags, sideAttributes, ranges}
+use Rattle.format.specs.Bytes.{pick, both, all, firstOf, find, at, value, part, same}
+use Rattle.format.specs.Layout.{Item, fix, fld, two, to, orNone, wide, fixedOk, isGood, refsGood}
+use Rattle.format.specs.Form.{Form, processor, cache, memory, acpi, pci, rintc, domain, matrix, side, cacheAttributes, matrixFlags, sideAttributes, ranges}
+use Rattle.format.specs.Field.{firstBad}
 use Rattle.laws.proofs.Finds.{never, All}
-use Rattle.laws.specs.Words.{FirstOf, NoneOf, Among, Attributes, Rules, Fixed, References}
+use Rattle.laws.specs.Words.{FirstOf, NoneOf, Every, FirstNot, Among, Attributes, Rules, Fixed, References}
 
 -- a test is true where P holds, and false where it does not
 pub record Tests (b : Bool) (P : Type 0) : Type 0 where
@@ -54,6 +55,22 @@ tests-same (x ∷ xs) [] = record { right = never; wrong = λ e h. let z : _≡_
 tests-same (x ∷ xs) (y ∷ ys) =
     tests-as (both (eqb x y) (same xs ys)) (tests-both (eqb x y) (same xs ys) (tests-eqb x y) (tests-same xs ys)) (λ h. rw (h .0, h .1)) (λ h. (cc, cc))
 
+-- each test tests the condition beside it
+abbrev pub TestsAll : List Bool → List (Type 0) → Type 0
+TestsAll [] [] = Unit
+TestsAll [] (P ∷ Ps) = ⊥
+TestsAll (b ∷ bs) [] = ⊥
+TestsAll (b ∷ bs) (P ∷ Ps) = Tests b P × TestsAll bs Ps
+
+pub tests-every : (bs : List Bool) (Ps : List (Type 0)) → TestsAll bs Ps → Tests (all bs) (Every Ps)
+tests-every [] [] h = tests-true
+tests-every [] (P ∷ Ps) h = absurd h
+tests-every (b ∷ bs) [] h = absurd h
+tests-every (b ∷ []) (P ∷ []) h = h .0
+tests-every (b ∷ []) (P ∷ Q ∷ Ps) h = absurd (h .1)
+tests-every (b ∷ c ∷ bs) (P ∷ []) h = absurd (h .1)
+tests-every (b ∷ c ∷ bs) (P ∷ Q ∷ Ps) h = tests-both b (all (c ∷ bs)) (h .0) (tests-every (c ∷ bs) (Q ∷ Ps) (h .1))
+
 -- a field whose flag bit is off
 tests-off : (x v : ℕ) → x < 2 → Tests (pick (eqb x 1) true (eqb v 0)) (x ≡ 0 → v ≡ 0)
 tests-off x v l = by (eqb x 1) refl
@@ -65,7 +82,7 @@ tests-off x v l = by (eqb x 1) refl
 a-bit : (x : ℕ) → x % 2 < 2
 a-bit x = omega arith
 
-ruleset tested = (tests-leb, tests-ltb, tests-eqb, tests-true, tests-both, tests-off, a-bit)
+ruleset tested = (tests-leb, tests-ltb, tests-eqb, tests-true, tests-both, tests-off, a-bit, tt)
 
 -- where a search finds nothing, no test is true
 pub found-none : {A : Type 0} (p : A → Bool) (xs : List A) → find p xs ≡ none → All (λ x. p x ≡ false) xs
@@ -106,29 +123,17 @@ tests-attributes : (f a : ℕ) → Tests (cacheAttributes f a) (Attributes f a)
 unfolding cacheAttributes
 tests-attributes f a = search tested depth 8
 
-tests-cache : (vs : List ℕ) → Tests (all (ranges cache vs)) (Rules cache vs)
-unfolding ranges
-tests-cache vs =
-    let f = at vs 0 in
-    let h = tests-attributes f (at vs 5) in
-    let g : Tests (both (ltb f 256) (both (kept f 0 (at vs 2)) (both (kept f 1 (at vs 3)) (both (kept f 2 (at vs 4)) (both (cacheAttributes f (at vs 5)) (both (kept f 6 (at vs 6)) (kept f 7 (at vs 7))))))))
-    (Rules cache vs) = search tested depth 9 in
-    g
-
-pub tests-rules : (f : Form) (vs : List ℕ) → Tests (all (ranges f vs)) (Rules f vs)
+pub tests-rules : (f : Form) (vs : List ℕ) → TestsAll (ranges f vs) (Rules f vs)
 unfolding ranges matrixFlags sideAttributes
-tests-rules (processor n) vs = tests-true
-tests-rules cache vs = tests-cache vs
-tests-rules memory vs = tests-leb (at vs 3) 7
-tests-rules acpi vs = tests-leb (at vs 3) 3
-tests-rules pci vs = tests-both (leb (at vs 3) 31) (both (leb (at vs 4) 7) (leb (at vs 5) 3)) (tests-leb (at vs 3) 31) (search tested)
-tests-rules rintc vs = tests-leb (at vs 1) 1
-tests-rules domain vs = tests-true
+tests-rules (processor n) vs = tt
+tests-rules cache vs = (search tested, (search tested, (search tested, (search tested, (search tested, (tests-attributes (at vs 0) (at vs 5), (search tested, (search tested, tt))))))))
+tests-rules memory vs = search tested
+tests-rules acpi vs = search tested
+tests-rules pci vs = search tested depth 8
+tests-rules rintc vs = search tested
+tests-rules domain vs = tt
 tests-rules (matrix i t) vs = search tested
-tests-rules (side n) vs = tests-both (leb (bits a 0 4) 3) (both (leb (bits a 4 4) 3) (both (leb (bits a 8 4) 2) (leb (bits a 12 4) 2))) (tests-leb (bits a 0 4) 3) (search tested)
-  where
-    a : ℕ
-    a = at vs 2
+tests-rules (side n) vs = (tests-true, (tests-true, (search tested, tt)))
 
 -- ---- zeros and fixed values
 
@@ -163,45 +168,81 @@ module _ (ok : ℕ → ℕ → Bool) (P : ℕ → ℕ → Type 0) (names : (v t 
 
 -- ---- the first of a list
 
--- each test of the second list tests the condition of the first beside it, where no test before it is true; the numbers rise from n on
-abbrev pub Mirrors : ℕ → List (ℕ × Type 0) → List (Bool × ℕ) → Type 0
-Mirrors n [] [] = Unit
-Mirrors n [] (t ∷ ts) = ⊥
-Mirrors n (c ∷ cs) [] = ⊥
-Mirrors n (c ∷ cs) (t ∷ ts) = (n < t .1) × (c .0 ≡ t .1) × (t .0 ≡ true → c .1) × (t .0 ≡ false → (c .1 → ⊥) × Mirrors (t .1) cs ts)
+-- n is a number, and none of the tests has it
+abbrev Own : ℕ → List (Bool × ℕ) → Type 0
+Own n [] = 0 < n
+Own n (t ∷ ts) = (t .1 ≡ n → ⊥) × Own n ts
 
-above : (lo : ℕ) (cs : List (ℕ × Type 0)) (ts : List (Bool × ℕ)) → Mirrors lo cs ts → (n : ℕ) → 0 < n → firstOf ts ≡ n → lo < n
-above lo [] [] m n z e = absurd (omega arith)
-above lo [] (t ∷ ts) m n z e = absurd m
-above lo (c ∷ cs) [] m n z e = absurd m
-above lo (c ∷ cs) (t ∷ ts) (l, i, r, w) n z e = by (t .0) refl e (λ q. above (t .1) cs ts (w q .1) n z)
+-- each test of the second list tests the condition of the first beside it, where no test before it is true; each has a number of its own
+abbrev pub Mirrors : List (ℕ × Type 0) → List (Bool × ℕ) → Type 0
+Mirrors [] [] = Unit
+Mirrors [] (t ∷ ts) = ⊥
+Mirrors (c ∷ cs) [] = ⊥
+Mirrors (c ∷ cs) (t ∷ ts) = Own (t .1) ts × (c .0 ≡ t .1) × (t .0 ≡ true → c .1) × (t .0 ≡ false → (c .1 → ⊥) × Mirrors cs ts)
+
+own-pos : (n : ℕ) (ts : List (Bool × ℕ)) → Own n ts → 0 < n
+own-pos n [] o = o
+own-pos n (t ∷ ts) o = own-pos n ts (o .1)
+
+-- a number that no test has does not come first
+not-first : (n : ℕ) (ts : List (Bool × ℕ)) → Own n ts → firstOf ts ≡ n → ⊥
+not-first n [] o e = omega arith
+not-first n (t ∷ ts) o e = by (t .0) e (not-first n ts (o .1))
   where
-    by : (x : Bool) → t .0 ≡ x → pick x (t .1) (firstOf ts) ≡ n → (t .0 ≡ false → firstOf ts ≡ n → t .1 < n) → lo < n
-    by true q e ih = omega arith
-    by false q e ih = omega (arith, ih q e)
+    by : (x : Bool) → pick x (t .1) (firstOf ts) ≡ n → (firstOf ts ≡ n → ⊥) → ⊥
+    by true e ih = o .0 e
+    by false e ih = ih e
 
-pub none-of : (lo : ℕ) (cs : List (ℕ × Type 0)) (ts : List (Bool × ℕ)) → Mirrors lo cs ts → (firstOf ts ≡ 0) ↔ NoneOf cs
-none-of lo [] [] m = (λ e. tt, λ h. refl)
-none-of lo [] (t ∷ ts) m = absurd m
-none-of lo (c ∷ cs) [] m = absurd m
-none-of lo (c ∷ cs) (t ∷ ts) (l, i, r, w) = by (t .0) refl (λ q. none-of (t .1) cs ts (w q .1))
+pub none-of : (cs : List (ℕ × Type 0)) (ts : List (Bool × ℕ)) → Mirrors cs ts → (firstOf ts ≡ 0) ↔ NoneOf cs
+none-of [] [] m = (λ e. tt, λ h. refl)
+none-of [] (t ∷ ts) m = absurd m
+none-of (c ∷ cs) [] m = absurd m
+none-of (c ∷ cs) (t ∷ ts) (o, i, r, w) = by (t .0) refl (λ q. none-of cs ts (w q .1))
   where
     by : (x : Bool) → t .0 ≡ x → (t .0 ≡ false → (firstOf ts ≡ 0) ↔ NoneOf cs) → (pick x (t .1) (firstOf ts) ≡ 0) ↔ NoneOf (c ∷ cs)
-    by true q ih = (λ e. absurd (omega arith), λ h. absurd (h .0 (r q)))
+    by true q ih = (λ e. absurd (omega (arith, own-pos (t .1) ts o)), λ h. absurd (h .0 (r q)))
     by false q ih = (λ e. (w q .0, ih q .0 e), λ h. ih q .1 (h .1))
 
-pub first-of : (lo : ℕ) (cs : List (ℕ × Type 0)) (ts : List (Bool × ℕ)) → Mirrors lo cs ts → (n : ℕ) → 0 < n → (firstOf ts ≡ n) ↔ FirstOf n cs
-first-of lo [] [] m n z = (λ e. absurd (omega arith), λ h. absurd h)
-first-of lo [] (t ∷ ts) m n z = absurd m
-first-of lo (c ∷ cs) [] m n z = absurd m
-first-of lo (c ∷ cs) (t ∷ ts) (l, i, r, w) n z = by (t .0) refl (eqb n (c .0)) refl (λ q. first-of (t .1) cs ts (w q .1) n z)
+pub first-of : (cs : List (ℕ × Type 0)) (ts : List (Bool × ℕ)) → Mirrors cs ts → (n : ℕ) → 0 < n → (firstOf ts ≡ n) ↔ FirstOf n cs
+first-of [] [] m n z = (λ e. absurd (omega arith), λ h. absurd h)
+first-of [] (t ∷ ts) m n z = absurd m
+first-of (c ∷ cs) [] m n z = absurd m
+first-of (c ∷ cs) (t ∷ ts) (o, i, r, w) n z = by (t .0) refl (eqb n (c .0)) refl (λ q. first-of cs ts (w q .1) n z)
   where
     by : (x : Bool) → t .0 ≡ x → (y : Bool) → eqb n (c .0) ≡ y → (t .0 ≡ false → (firstOf ts ≡ n) ↔ FirstOf n cs)
         → (pick x (t .1) (firstOf ts) ≡ n) ↔ pick y (c .1) ((c .1 → ⊥) × FirstOf n cs)
     by true q true d ih = (λ e. r q, λ h. sym i ∙ sym (eqb-true n (c .0) d))
     by true q false d ih = (λ e. absurd (eqb-false n (c .0) d (sym e ∙ sym i)), λ h. absurd (h .0 (r q)))
-    by false q true d ih = (λ e. absurd (let k = above (t .1) cs ts (w q .1) n z e in omega (arith, eqb-true n (c .0) d)), λ h. absurd (w q .0 h))
+    by false q true d ih = (λ e. absurd (not-first (t .1) ts o (e ∙ (eqb-true n (c .0) d ∙ i))), λ h. absurd (w q .0 h))
     by false q false d ih = (λ e. (w q .0, ih q .0 e), λ h. ih q .1 (h .1))
+
+-- ---- the first field that is bad
+
+-- where a test fails, one is the first that does
+pub first-not : (bs : List Bool) (Ps : List (Type 0)) → TestsAll bs Ps → all bs ≡ false → (j : ℕ) × FirstNot j Ps
+first-not [] [] h e = never (sym e)
+first-not [] (P ∷ Ps) h e = absurd h
+first-not (b ∷ bs) [] h e = absurd h
+first-not (true ∷ []) (P ∷ Ps) h e = never (sym e)
+first-not (true ∷ c ∷ bs) (P ∷ Ps) h e = let (j, f) = first-not (c ∷ bs) Ps (h .1) e in (suc j, (h .0 .right refl, f))
+first-not (false ∷ bs) (P ∷ Ps) h e = (0, h .0 .wrong refl)
+
+-- where the items of a layout begin that starts at p
+abbrev pub offsets : ℕ → List Item → List ℕ
+offsets p [] = []
+offsets p (i ∷ is) = p ∷ offsets (p + wide i) is
+
+-- its place is where its item begins
+pub first-bad : (p : ℕ) (is : List Item) (bs : List Bool) (Ps : List (Type 0)) (j : ℕ) → TestsAll bs Ps → length Ps ≤ length is → FirstNot j Ps
+    → firstBad p is bs ≡ at (offsets p is) j
+unfolding firstBad
+first-bad p is bs [] j h l f = absurd f
+first-bad p [] bs (P ∷ Ps) j h l f = absurd (omega arith)
+first-bad p (i ∷ is) [] (P ∷ Ps) j h l f = absurd h
+first-bad p (i ∷ is) (true ∷ bs) (P ∷ Ps) zero h l f = absurd (f (h .0 .right refl))
+first-bad p (i ∷ is) (false ∷ bs) (P ∷ Ps) zero h l f = refl
+first-bad p (i ∷ is) (true ∷ bs) (P ∷ Ps) (suc j) h l f = first-bad (p + wide i) is bs Ps j (h .1) (omega arith) (f .1)
+first-bad p (i ∷ is) (false ∷ bs) (P ∷ Ps) (suc j) h l f = absurd (h .0 .wrong refl (f .0))
 
 -- ---- what stands first is one
 

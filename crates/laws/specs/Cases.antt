@@ -1,4 +1,4 @@
--- Document 01's cases C1 to C12, as one statement. Identity fields and all fields not named are 0.
+-- Document 01's cases C1 to C12, as one statement, and cases of order 1 of document 02. Identity fields and all fields not named are 0.
 use Prim.Native.Nat.{ℕ, _+_, _*_}
 use mathlib.Core.List.{List, [], _∷_, _++_}
 use mathlib.Core.Option.{none}
@@ -6,7 +6,7 @@ use mathlib.Core.Path.{_≡_}
 use lib.ListN.{length, drop, replicate}
 use Rattle.format.specs.Bytes.{refused, given, at, le, part}
 use Rattle.format.specs.Table.{Table, pptt, srat, hmat, code}
-use Rattle.format.specs.Kind.{Processor, Resource, Cache, Matrix, Cell}
+use Rattle.format.specs.Kind.{Processor, Resource, Cache, Pci, Matrix, Initiator, Cell, Side}
 use Rattle.format.specs.Build.{build, table}
 use Rattle.format.specs.Normal.{call, each}
 use Rattle.format.specs.Read.{reading, read, readPart}
@@ -57,3 +57,24 @@ pub record CheckedByHand : Type 0 where
   pub c11 : Refuses (head pptt ++ call Processor (0 ∷ 1 ∷ 0 ∷ [])) 6 28
   pub c12 : read newer every 0 ≡ given (reading 1 1 36 28 none [])
   pub c12-part : readPart newer every 0 ≡ drop 36 newer
+
+-- a processor and a cache, then more records
+abbrev pub withNodes : List ℕ → List ℕ
+withNodes more = head pptt ++ (call Processor (0 ∷ 0 ∷ 0 ∷ []) ++ (call Cache (replicate 8 0) ++ more))
+
+-- order 1: a bad field's own place, and the two ways in which a reference is not good
+pub record ToldByHand : Type 0 where
+  pub table : Refuses (1 ∷ 3 ∷ replicate 26 0) 5 1
+  pub size : Refuses (head pptt ++ call Cache (0 ∷ 0 ∷ 1 ∷ replicate 5 0)) 5 34  -- although its flag is off: not the flags
+  pub attributes : Refuses (head pptt ++ call Cache (255 ∷ 0 ∷ 0 ∷ 0 ∷ 0 ∷ 12 ∷ 0 ∷ 0 ∷ [])) 5 43
+  pub first : Refuses (head srat ++ call Pci (0 ∷ 0 ∷ 0 ∷ 0 ∷ 8 ∷ 4 ∷ [])) 5 37  -- the function, not the flags behind it
+  pub transfer : Refuses (head hmat ++ call Matrix (0 ∷ 0 ∷ 12 ∷ 0 ∷ 1 ∷ 1 ∷ [])) 5 31
+  pub initiator : Refuses (withMatrix 2 3 (call Initiator (2 ∷ 0 ∷ []))) 5 43
+  pub column : Refuses (withMatrix 2 3 (call Cell (1 ∷ 3 ∷ 0 ∷ []))) 5 44
+  pub side : Refuses (head hmat ++ call Side (0 ∷ 0 ∷ 768 ∷ [])) 5 41
+  pub none : Refuses (withNodes (call Processor (0 ∷ 1 ∷ 0 ∷ []) ++ call Resource (0 ∷ []))) 6 76
+  pub own : Refuses (withNodes (call Cache (0 ∷ 3 ∷ replicate 6 0))) 6 63
+  pub its : Refuses (withNodes (call Processor (0 ∷ 1 ∷ 0 ∷ []) ++ call Resource (3 ∷ []))) 6 76  -- a resource's own ordinal is its processor's
+  pub parent : Refuses (withNodes (call Processor (0 ∷ 2 ∷ 0 ∷ []))) 10 63
+  pub level : Refuses (withNodes (call Cache (0 ∷ 1 ∷ replicate 6 0))) 10 63
+  pub resource : Refuses (withNodes (call Processor (0 ∷ 1 ∷ 0 ∷ []) ++ call Resource (1 ∷ []))) 10 76

@@ -1,11 +1,12 @@
--- Demand 1 for build: when each answer is given, and at which place, as document 01's table has it.
+-- Demand 1 for build: when each answer is given, and at which place, as the tables of documents 01 and 02 have it.
 use mathlib.Core.Path.{_≡_}
 use mathlib.Core.Logic.{_↔_, _⊎_}
 use Prim.Native.Nat.{ℕ, suc, _+_, _≤_, _<_}
 use mathlib.Core.List.{List, [], _∷_}
 use mathlib.Core.Option.{Option, none, some}
 use lib.ListN.{length, drop}
-use Rattle.format.specs.Bytes.{Answer, refused, given, at, part}
+use lib.Dec.{eqb}
+use Rattle.format.specs.Bytes.{pick, Answer, refused, given, at, part}
 use Rattle.format.specs.Layout.{width, fields}
 use Rattle.format.specs.Table.{Table, pptt, srat, hmat, code, front, limit, headOf}
 use Rattle.format.specs.Form.{cache, memory, acpi, pci, rintc, matrix, side, typeOf}
@@ -13,7 +14,7 @@ use Rattle.format.specs.Node.{Node, sizes}
 use Rattle.format.specs.Kind.{Kind, Processor, Resource, Cache, Memory, Acpi, Pci, Rintc, Domain, Matrix, Initiator, Target, Cell, Side, Handle, kindNumber, body}
 use Rattle.format.specs.Recipe.{Newest, aProcessor, aMatrix, aSide, other, newest, added, Meaning}
 use Rattle.format.specs.Build.{lengthOf, build}
-use Rattle.laws.specs.Words.{FirstOf, NoneOf, Among, Rules, References}
+use Rattle.laws.specs.Words.{FirstOf, NoneOf, Every, FirstNot, Among, Rules, References}
 
 -- ---- the kinds
 
@@ -68,26 +69,47 @@ counts other = (0, 0)
 
 -- ---- a record of kind k with the fields vs, behind nodes of which the newest is n
 
--- ranges and bit rules; indices below I and T
-abbrev pub Ranged : Kind → List ℕ → Newest → Type 0
-Ranged Processor vs n = Unit
-Ranged Resource vs n = Unit
+-- a condition for each field of its body, in order: ranges and bit rules; indices below I and T; fields behind the last may hold any number
+abbrev pub Ranged : Kind → List ℕ → Newest → List (Type 0)
+Ranged Processor vs n = []
+Ranged Resource vs n = []
 Ranged Cache vs n = Rules cache vs
 Ranged Memory vs n = Rules memory vs
 Ranged Acpi vs n = Rules acpi vs
 Ranged Pci vs n = Rules pci vs
 Ranged Rintc vs n = Rules rintc vs
-Ranged Domain vs n = Unit
+Ranged Domain vs n = []
 Ranged Matrix vs n = Rules (matrix (at vs 4) (at vs 5)) vs
-Ranged Initiator vs n = at vs 0 < counts n .0
-Ranged Target vs n = at vs 0 < counts n .1
-Ranged Cell vs n = (at vs 0 < counts n .0) × (at vs 1 < counts n .1)
+Ranged Initiator vs n = (at vs 0 < counts n .0) ∷ []
+Ranged Target vs n = (at vs 0 < counts n .1) ∷ []
+Ranged Cell vs n = (at vs 0 < counts n .0) ∷ (at vs 1 < counts n .1) ∷ []
 Ranged Side vs n = Rules (side 0) vs
-Ranged Handle vs n = Unit
+Ranged Handle vs n = []
+
+-- where each field of a body begins, counted from the kind byte
+abbrev pub places : Kind → List ℕ
+places Processor = 1 ∷ 5 ∷ 9 ∷ []
+places Resource = 1 ∷ []
+places Cache = 1 ∷ 2 ∷ 6 ∷ 10 ∷ 14 ∷ 15 ∷ 16 ∷ 18 ∷ []
+places Memory = 1 ∷ 5 ∷ 13 ∷ 21 ∷ []
+places Acpi = 1 ∷ 5 ∷ 13 ∷ 17 ∷ []
+places Pci = 1 ∷ 5 ∷ 7 ∷ 8 ∷ 9 ∷ 10 ∷ []
+places Rintc = 1 ∷ 5 ∷ 6 ∷ []
+places Domain = 1 ∷ 5 ∷ []
+places Matrix = 1 ∷ 2 ∷ 3 ∷ 4 ∷ 12 ∷ 13 ∷ []
+places Initiator = 1 ∷ 2 ∷ []
+places Target = 1 ∷ 2 ∷ []
+places Cell = 1 ∷ 2 ∷ 3 ∷ []
+places Side = 1 ∷ 5 ∷ 13 ∷ []
+places Handle = 1 ∷ []
 
 -- the 59th resource, the 65,536th SMBIOS handle
 abbrev pub Full : Kind → Newest → Type 0
 Full k n = ((k ≡ Resource) × (58 ≤ entries n)) ⊎ ((k ≡ Handle) × (65535 ≤ entries n))
+
+-- v is not 0, and below the ordinal of the node that comes behind the nodes ns, whatever type ty it has to be of
+abbrev pub Backward : List Node → ℕ → ℕ → Type 0
+Backward ns v ty = (1 ≤ v) × (v < suc (length ns))
 
 -- v is the ordinal, counted from 1, of one of the nodes ns, and that is of type ty
 abbrev pub Names : List Node → ℕ → ℕ → Type 0
@@ -103,10 +125,15 @@ headFaults r = (1, at r 0 ≡ 1 → ⊥) ∷ (3, length r < 28) ∷ (5, 2 < at r
 abbrev pub recordFaults : Table → ℕ → List Node → Kind → List ℕ → List (ℕ × Type 0)
 recordFaults t b ns k vs =
     (4, After (joins k) b → ⊥)
-    ∷ (5, Ranged k vs (newest ns) → ⊥)
-    ∷ (6, References (Names (earlier (joins k) ns)) (body k) vs → ⊥)
+    ∷ (5, Every (Ranged k vs (newest ns)) → ⊥)
+    ∷ (6, References (Backward (earlier (joins k) ns)) (body k) vs → ⊥)
+    ∷ (10, References (Names (earlier (joins k) ns)) (body k) vs → ⊥)
     ∷ (7, Full k (newest ns))
     ∷ (8, limit < front t + sizes (added k vs ns)) ∷ []
+
+-- the place of fault n of such a record at p: of a bad field, those before it being good, its first byte; of every other the kind byte
+abbrev pub Where : ℕ → List Node → Kind → List ℕ → ℕ → ℕ → Type 0
+Where n ns k vs p place = pick (eqb n 5) ((j : ℕ) × FirstNot j (Ranged k vs (newest ns)) × (place ≡ p + at (places k) j)) (place ≡ p)
 
 -- the fields of a body behind the kind byte at p
 abbrev pub fieldsAt : List ℕ → ℕ → Kind → List ℕ
@@ -151,17 +178,19 @@ pub record Says (r : List ℕ) (m : Meaning) : Type 0 where
 
 -- ---- each number
 
--- 1, 3, 5 of the head
+-- 1 and 3 of the head, at its kind byte, and 5 at its first field
 abbrev pub AtHead : ℕ → List ℕ → ℕ → Type 0
-AtHead n r p = FirstOf n (headFaults r) × (p ≡ 0)
+AtHead n r place = FirstOf n (headFaults r) × (place ≡ pick (eqb n 5) 1 0)
 
 -- 2 of the record at p
 abbrev pub BadKind : List ℕ → ℕ → Type 0
 BadKind r p = (t : Table) × (q : ℕ) × (ns : List Node) × Comes t r q ns p × (Belongs t (at r p) → ⊥)
 
--- 3 to 8 of the record at p
+-- 3 to 8 and 10, of a record at p
 abbrev pub AtRecord : ℕ → List ℕ → ℕ → Type 0
-AtRecord n r p = (t : Table) × (q : ℕ) × (ns : List Node) × (k : Kind) × Comes t r q ns p × OfKind t (at r p) k × FirstOf n (faults t r q ns p k)
+AtRecord n r place =
+    (t : Table) × (q : ℕ) × (ns : List Node) × (p : ℕ) × (k : Kind)
+    × Comes t r q ns p × OfKind t (at r p) k × FirstOf n (faults t r q ns p k) × Where n ns k (fieldsAt r p k) p place
 
 -- 9: the table of what r means is longer than the room, and that is the place
 abbrev pub NoRoom : List ℕ → ℕ → ℕ → Type 0
@@ -177,7 +206,8 @@ pub record Exactly (r : List ℕ) (room : ℕ) : Type 0 where
   pub cut : (p : ℕ) → (build r room ≡ refused 3 p) ↔ (AtHead 3 r p ⊎ AtRecord 3 r p)
   pub misplaced : (p : ℕ) → (build r room ≡ refused 4 p) ↔ AtRecord 4 r p
   pub badField : (p : ℕ) → (build r room ≡ refused 5 p) ↔ (AtHead 5 r p ⊎ AtRecord 5 r p)
-  pub badRef : (p : ℕ) → (build r room ≡ refused 6 p) ↔ AtRecord 6 r p
+  pub forward : (p : ℕ) → (build r room ≡ refused 6 p) ↔ AtRecord 6 r p
+  pub wrongKind : (p : ℕ) → (build r room ≡ refused 10 p) ↔ AtRecord 10 r p
   pub fullNode : (p : ℕ) → (build r room ≡ refused 7 p) ↔ AtRecord 7 r p
   pub tooLong : (p : ℕ) → (build r room ≡ refused 8 p) ↔ AtRecord 8 r p
   pub noRoom : (p : ℕ) → (build r room ≡ refused 9 p) ↔ NoRoom r room p
@@ -194,4 +224,4 @@ Earned r room (given n) = HasRoom r room n
 pub record One (r : List ℕ) (room : ℕ) : Type 0 where
   pub earned : Earned r room (build r room)
   pub only : (a : Answer ℕ) → Earned r room a → build r room ≡ a
-  pub numbers : (n p : ℕ) → build r room ≡ refused n p → (1 ≤ n) × (n ≤ 9)
+  pub numbers : (n p : ℕ) → build r room ≡ refused n p → (1 ≤ n) × (n ≤ 10)

@@ -54,7 +54,7 @@ Known t rev mask bs r = Fits t rev (typeIn t bs) bs r × (knows mask r ≡ true)
 
 -- zeros, fixed values and inner counts, ranges and bit rules are as a form has them
 abbrev pub Sound : Form → List ℕ → Type 0
-Sound f bs = Fixed (layout f) bs 0 × Rules f (fields (layout f) bs)
+Sound f bs = Fixed (layout f) bs 0 × Every (Rules f (fields (layout f) bs))
 
 -- one of the earlier records starts at v, and has the type ty
 abbrev pub Starts : List Entry → ℕ → ℕ → Type 0

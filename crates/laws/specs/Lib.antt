@@ -5,6 +5,7 @@ pub mod Settings
 pub mod Cases
 pub mod Words
 pub mod Demand1
+pub mod Before
 pub mod Demand2
 pub mod Demand3
 pub mod Demand1Read

@@ -1,7 +1,7 @@
 -- Conditions in words: what a list of them in order says, the ranges and bit rules of fields, and references that name a record.
 use mathlib.Core.Path.{_≡_}
 use mathlib.Core.Logic.{_⊎_}
-use Prim.Native.Nat.{ℕ, _+_, _≤_, _<_}
+use Prim.Native.Nat.{ℕ, zero, suc, _+_, _≤_, _<_}
 use mathlib.Core.List.{List, [], _∷_, _++_}
 use lib.ListN.{drop}
 use lib.Dec.{eqb}
@@ -27,6 +27,12 @@ Every [] = Unit
 Every (P ∷ []) = P
 Every (P ∷ Q ∷ Ps) = P × Every (Q ∷ Ps)
 
+-- number j of them, counted from 0, is the first that does not hold
+abbrev pub FirstNot : ℕ → List (Type 0) → Type 0
+FirstNot j [] = ⊥
+FirstNot zero (P ∷ Ps) = P → ⊥
+FirstNot (suc j) (P ∷ Ps) = P × FirstNot j Ps
+
 -- ---- lists with the newest first
 
 -- one element has P of itself and of those before it
@@ -43,23 +49,28 @@ Off flags b v = bits flags b 1 ≡ 0 → v ≡ 0
 abbrev pub Attributes : ℕ → ℕ → Type 0
 Attributes f a = Every ((bits a 0 2 ≤ 2) ∷ (bits a 2 2 ≤ 2) ∷ (a < 32) ∷ Off f 3 (bits a 0 2) ∷ Off f 4 (bits a 2 2) ∷ Off f 5 (bits a 4 1) ∷ [])
 
-abbrev pub Rules : Form → List ℕ → Type 0
-Rules (processor n) vs = Unit
+-- a field that may hold any number
+abbrev pub Any : Type 0
+Any = Unit
+
+-- a condition for each field, in order; fields behind the last may hold any number
+abbrev pub Rules : Form → List ℕ → List (Type 0)
+Rules (processor n) vs = []
 Rules cache vs =
     let f : ℕ = at vs 0 in
-    Every ((f < 256) ∷ Off f 0 (at vs 2) ∷ Off f 1 (at vs 3) ∷ Off f 2 (at vs 4) ∷ Attributes f (at vs 5) ∷ Off f 6 (at vs 6) ∷ Off f 7 (at vs 7) ∷ [])
-Rules memory vs = at vs 3 ≤ 7
-Rules acpi vs = at vs 3 ≤ 3
-Rules pci vs = Every ((at vs 3 ≤ 31) ∷ (at vs 4 ≤ 7) ∷ (at vs 5 ≤ 3) ∷ [])
-Rules rintc vs = at vs 1 ≤ 1
-Rules domain vs = Unit
+    (f < 256) ∷ Any ∷ Off f 0 (at vs 2) ∷ Off f 1 (at vs 3) ∷ Off f 2 (at vs 4) ∷ Attributes f (at vs 5) ∷ Off f 6 (at vs 6) ∷ Off f 7 (at vs 7) ∷ []
+Rules memory vs = Any ∷ Any ∷ Any ∷ (at vs 3 ≤ 7) ∷ []
+Rules acpi vs = Any ∷ Any ∷ Any ∷ (at vs 3 ≤ 3) ∷ []
+Rules pci vs = Any ∷ Any ∷ Any ∷ (at vs 3 ≤ 31) ∷ (at vs 4 ≤ 7) ∷ (at vs 5 ≤ 3) ∷ []
+Rules rintc vs = Any ∷ (at vs 1 ≤ 1) ∷ []
+Rules domain vs = []
 Rules (matrix i t) vs =
     -- flags: bits 0..1, 4 and 5, the rest 0
-    Every (((bits (at vs 0) 2 2 ≡ 0) × (at vs 0 < 64)) ∷ (at vs 1 ≤ 5) ∷ (at vs 2 ≤ 11) ∷ [])
+    ((bits (at vs 0) 2 2 ≡ 0) × (at vs 0 < 64)) ∷ (at vs 1 ≤ 5) ∷ (at vs 2 ≤ 11) ∷ []
 Rules (side n) vs =
     -- levels 0..3, twice, associativity 0..2, policy 0..2, four bits each
     let a : ℕ = at vs 2 in
-    Every ((bits a 0 4 ≤ 3) ∷ (bits a 4 4 ≤ 3) ∷ (bits a 8 4 ≤ 2) ∷ (bits a 12 4 ≤ 2) ∷ [])
+    Any ∷ Any ∷ Every ((bits a 0 4 ≤ 3) ∷ (bits a 4 4 ≤ 3) ∷ (bits a 8 4 ≤ 2) ∷ (bits a 12 4 ≤ 2) ∷ []) ∷ []
 
 -- ---- zeros and fixed values
 

@@ -15,8 +15,8 @@ ghost use Rattle.format.specs.Form.{processor, cache, size, layout, cacheAttrib
 ghost use Rattle.format.specs.Node.{node, bytes, nodeAt};
 ghost use Rattle.format.specs.Kind.{Processor, Cache, body};
 ghost use Rattle.format.specs.Kind as format;
-ghost use Rattle.format.specs.Normal.{call};
-ghost use Rattle.format.specs.Field.{callsOfNode, badField};
+ghost use Rattle.format.specs.Normal.{call, callsOfNode};
+ghost use Rattle.format.specs.Field.{badField};
 ghost use Rattle.format.specs.Row.{processors, column, formIn};
 ghost use Rattle.format.specs.Read.{sound};
 ghost use Rattle.pptt.specs.Processor.{processorFields, processorShown, processorNode, processorOf, flagged, fixedPart, withResource, grown, processorIn, resourceIn, resourceFields};

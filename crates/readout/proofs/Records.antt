@@ -14,11 +14,10 @@ use Rattle.format.specs.Layout.{Item, fld, to, asIs, width, layWith, fieldsWith
 use Rattle.format.specs.Form.{Form, processor, cache, memory, acpi, pci, rintc, domain, matrix, side, layout}
 use Rattle.format.specs.Row.{initiators, matrices, sides, formIn}
 use Rattle.format.specs.Kind.{Processor, Resource, Cache, Memory, Acpi, Pci, Rintc, Domain, Matrix, Cell, Side, Handle, body}
-use Rattle.format.specs.Normal.{call, each, eachSet, settings, calls}
+use Rattle.format.specs.Normal.{call, each, eachSet, settings, calls, callsOfNode}
 use Rattle.laws.specs.Offsets.{fieldsAt}
 use Rattle.format.specs.Node.{Node, node, nodeAt}
 use Rattle.format.specs.Read.{shown}
-use Rattle.format.specs.Field.{callsOfNode}
 use Rattle.laws.proofs.Finds.{never}
 use Rattle.laws.proofs.Shapes.{Plain, plain-fld}
 use Rattle.laws.proofs.Fields.{length-call, fields-plain}

@@ -4,7 +4,7 @@ use Prim.Native.Nat.{ℕ, suc, _+_, _≤_}
 use mathlib.Core.List.{List, [], _∷_, _++_}
 use mathlib.Core.Bool.{Bool, true, false, not}
 use native.Mathlib.Omega.{arith}
-use native.Mathlib.Nat.{add-assoc}
+use native.Mathlib.Nat.{add-zero, add-assoc}
 use native.Mathlib.Numerals.{add-one}
 use lib.ListN.{length, take}
 use lib.Dec.{eqb, leb, ltb}
@@ -15,22 +15,22 @@ use Rattle.format.specs.Bytes.{pick, all, firstOf, Answer, refused, given, unle
 use Rattle.format.specs.Layout.{width, fields, refsGood}
 use Rattle.format.specs.Table.{Table, front, limit}
 use Rattle.format.specs.Form.{Form, processor, cache, memory, acpi, pci, rintc, domain, matrix, side, size, ranges}
-use Rattle.format.specs.Node.{Node, node, sizes, starts, atOrdinal}
+use Rattle.format.specs.Node.{Node, node, sizes, starts, isOrdinal, atOrdinal}
 use Rattle.format.specs.Kind.{Kind, Processor, Resource, Cache, Handle, body}
-use Rattle.format.specs.Recipe.{Step as Asked, Newest, aProcessor, aMatrix, aSide, other, newest, newestAs, resource, handle, setting, stray, makes, step, fault}
-use Rattle.format.specs.Field.{badIn, badField}
+use Rattle.format.specs.Recipe.{Step as Asked, Newest, aProcessor, aMatrix, aSide, other, newest, newestAs, resource, handle, setting, stray, makes, step, fault, faultAt}
+use Rattle.format.specs.Field.{maker, badIn, badField}
 use Rattle.laws.proofs.Tests.{both-right}
 use Rattle.laws.proofs.Fits.{second}
 use Rattle.laws.proofs.Fields.{all-bad, good-fields, body-window}
 use Rattle.recipe.specs.declared.Newest as kept
 use Rattle.recipe.specs.declared.Newest.the-variants as is
 use Rattle.recipe.specs.declared.State.{State}
-use Rattle.recipe.specs.declared.Refusal.the-variants.{BadField, TooLong}
+use Rattle.recipe.specs.declared.Refusal.the-variants.{TooLong}
 use Rattle.recipe.specs.declared.Step.{Step}
-use Rattle.recipe.specs.declared.Step.the-variants.{Next, Refused}
-use Rattle.recipe.specs.Machine.{newestKept, stateOf, Sound, grown, madeBy, typesOf, names, refers, Typed, stepped, turn}
+use Rattle.recipe.specs.declared.Step.the-variants.{Next, Refused, BadField}
+use Rattle.recipe.specs.Machine.{newestKept, stateOf, Sound, grown, madeBy, typesOf, ofType, refers, Typed, stepped, turn}
 use Rattle.recipe.proofs.Newest.{the-type}
-use Rattle.recipe.proofs.Refers.{names-new, names-joined}
+use Rattle.recipe.proofs.Refers.{refers-new, refers-joined}
 
 -- ---- the tests one by one
 
@@ -38,26 +38,30 @@ use Rattle.recipe.proofs.Refers.{names-new, names-joined}
 abbrev judged : Table → Kind → List ℕ → ℕ → Asked → Answer State
 judged t k vs p x =
     pick (not (x .placed)) (refused 4 p)
-    (pick (not (all (x .ranges))) (refused 5 p)
-    (pick (not (refsGood (atOrdinal (starts t (x .earlier))) (body k) vs)) (refused 6 p)
+    (pick (not (all (x .ranges))) (refused 5 (p + badIn k (x .ranges)))
+    (pick (not (refsGood (isOrdinal (length (x .earlier))) (body k) vs)) (refused 6 p)
+    (pick (not (refsGood (atOrdinal (starts t (x .earlier))) (body k) vs)) (refused 10 p)
     (pick (x .full) (refused 7 p)
-    (pick (ltb limit (front t + sizes (x .nodes))) (refused 8 p) (given (stateOf t (x .nodes)))))))
+    (pick (ltb limit (front t + sizes (x .nodes))) (refused 8 p) (given (stateOf t (x .nodes))))))))
 
 pub turn-judged : (t : Table) (ns : List Node) (k : Kind) (bs : List ℕ) (p : ℕ) → turn t ns k bs p ≡ judged t k (fields (body k) bs) p (step k (fields (body k) bs) ns)
-unfolding fault
+unfolding fault faultAt
 turn-judged t ns k bs p =
     let vs : List ℕ = fields (body k) bs in
     let x : Asked = step k vs ns in
-    go (not (x .placed)) (not (all (x .ranges))) (not (refsGood (atOrdinal (starts t (x .earlier))) (body k) vs)) (x .full) (ltb limit (front t + sizes (x .nodes))) (stateOf t (x .nodes))
+    go (not (x .placed)) (not (all (x .ranges))) (not (refsGood (isOrdinal (length (x .earlier))) (body k) vs)) (not (refsGood (atOrdinal (starts t (x .earlier))) (body k) vs))
+    (x .full) (ltb limit (front t + sizes (x .nodes))) (badIn k (x .ranges)) (stateOf t (x .nodes))
   where
-    go : (a b c d e : Bool) (s : State) → unless (firstOf ((a, 4) ∷ (b, 5) ∷ (c, 6) ∷ (d, 7) ∷ (e, 8) ∷ [])) p (given s)
-        ≡ pick a (refused 4 p) (pick b (refused 5 p) (pick c (refused 6 p) (pick d (refused 7 p) (pick e (refused 8 p) (given s)))))
-    go true b c d e s = refl
-    go false true c d e s = refl
-    go false false true d e s = refl
-    go false false false true e s = refl
-    go false false false false true s = refl
-    go false false false false false s = refl
+    go : (a b w c d e : Bool) (bad : ℕ) (s : State)
+        → (let n : ℕ = firstOf ((a, 4) ∷ (b, 5) ∷ (w, 6) ∷ (c, 10) ∷ (d, 7) ∷ (e, 8) ∷ []) in unless n (p + pick (eqb n 5) bad 0) (given s))
+        ≡ pick a (refused 4 p) (pick b (refused 5 (p + bad)) (pick w (refused 6 p) (pick c (refused 10 p) (pick d (refused 7 p) (pick e (refused 8 p) (given s))))))
+    go true b w c d e bad s = rw (add-zero p)
+    go false true w c d e bad s = refl
+    go false false true c d e bad s = rw (add-zero p)
+    go false false false true d e bad s = rw (add-zero p)
+    go false false false false true e bad s = rw (add-zero p)
+    go false false false false false true bad s = rw (add-zero p)
+    go false false false false false false bad s = refl
 
 -- bytes behind the body do not matter
 pub turn-window : (t : Table) (ns : List Node) (k : Kind) (bs : List ℕ) (p : ℕ) → turn t ns k (take (width (body k)) bs) p ≡ turn t ns k bs p
@@ -84,16 +88,19 @@ made-turn t ns f vs p s e =
     grown-turn t ns (node f vs ∷ ns) p s (s .nodes + 1) (size f) _ e (rw e (add-one (length ns))) (add-assoc (front t) (sizes ns) (size f)) refl
 
 -- by a new node without references, of which code asks for the first bad field; us: its fields
-module _ (k : Kind) (f : Form) (bs us : List ℕ) (same : (ns : List Node) → step k (fields (body k) bs) ns ≡ makes (ranges f (fields (body k) bs)) (node f us) ns)
+module _ (k : Kind) (f : Form) (bs us : List ℕ) (own : maker f ≡ k)
+    (same : (ns : List Node) → step k (fields (body k) bs) ns ≡ makes (ranges f (fields (body k) bs)) (node f us) ns)
     (free : (ok : ℕ → ℕ → Bool) (vs : List ℕ) → refsGood ok (body k) vs ≡ true) where
   pub plain-turn : (t : Table) (ns : List Node) (p : ℕ) (s : State) (bad : ℕ) → bad ≡ badField (node f (fields (body k) bs)) → s ≡ stateOf t ns
       → stepped p (madeBy s bad (size f) (newestKept (newestAs f us ns))) ≡ turn t ns k bs p
+  unfolding badField
   plain-turn t ns p s bad h e =
       let vs : List ℕ = fields (body k) bs in
       let a : turn t ns k bs p ≡ judged t k vs p (makes (ranges f vs) (node f us) ns) = turn-judged t ns k bs p ∙ ap (judged t k vs p) (same ns) in
-      sym (a ∙ rw (free, good-fields (node f vs), ← h) (go (eqb bad 0) _ _ (made-turn t ns f us p s e)))
+      let b : bad ≡ badIn k (ranges f vs) = h ∙ rw own in
+      sym (a ∙ rw (free (isOrdinal (length ns)) vs, free (atOrdinal (starts t ns)) vs, good-fields (node f vs), own, ← b) (go (eqb bad 0) _ _ (made-turn t ns f us p s e)))
     where
-      go : (b : Bool) (x : Step) (y : Answer State) → stepped p x ≡ y → pick (not b) (refused 5 p) y ≡ stepped p (pick b x (Refused BadField))
+      go : (b : Bool) (x : Step) (y : Answer State) → stepped p x ≡ y → pick (not b) (refused 5 (p + bad)) y ≡ stepped p (pick b x (BadField bad))
       go true x y q = sym q
       go false x y q = refl
 
@@ -115,28 +122,35 @@ module _ (ok : ℕ → ℕ → Bool) (vs : List ℕ) where
 
 -- new nodes that have one
 module _ (t : Table) (ns : List Node) (s : State) (e : s ≡ stateOf t ns) (ws : List ℕ) (w : Typed ws (typesOf ns)) (p : ℕ) (bs : List ℕ) where
-  abbrev referred : ℕ → ℕ → Bool
-  referred to ty = pick (eqb to 0) true (names ws (s .nodes + 1) to ty)
+  -- the answer to a record that refers to a node of the type ty, or none
+  abbrev referring : ℕ → ℕ → Answer State → Answer State
+  referring to ty a = pick (not (ltb to (s .nodes + 1))) (refused 6 p) (pick (not (pick (eqb to 0) true (ofType ws to ty))) (refused 10 p) a)
 
-  pub processor-turn : turn t ns Processor bs p ≡ pick (not (referred (refers Processor bs) 0)) (refused 6 p) (stepped p (grown s (s .nodes + 1) 20 (is.Processor 0)))
+  pub processor-turn : turn t ns Processor bs p ≡ referring (refers Processor bs) 0 (stepped p (grown s (s .nodes + 1) 20 (is.Processor 0)))
   unfolding step
   processor-turn =
       turn-judged t ns Processor bs p
-      ∙ rw (processor-refs (atOrdinal (starts t ns)) (fields (body Processor) bs), names-new ws t ns s e w (refers Processor bs) 0, made-turn t ns (processor 0) (fields (body Processor) bs) p s e)
+      ∙ rw (
+        processor-refs (isOrdinal (length ns)) (fields (body Processor) bs),
+        processor-refs (atOrdinal (starts t ns)) (fields (body Processor) bs),
+        made-turn t ns (processor 0) (fields (body Processor) bs) p s e,
+      )
+      (refers-new _ _ _ ws t s (refers Processor bs) 0 ns e w)
 
   pub cache-turn : (bad : ℕ) → bad ≡ badField (node cache (fields (body Cache) bs))
       → turn t ns Cache bs p
-      ≡ pick (not (eqb bad 0)) (refused 5 p) (pick (not (referred (refers Cache bs) 1)) (refused 6 p) (stepped p (grown s (s .nodes + 1) 28 is.Other)))
-  unfolding step
+      ≡ pick (not (eqb bad 0)) (refused 5 (p + bad)) (referring (refers Cache bs) 1 (stepped p (grown s (s .nodes + 1) 28 is.Other)))
+  unfolding step badField
   cache-turn bad h =
       turn-judged t ns Cache bs p
       ∙ rw (
         good-fields (node cache (fields (body Cache) bs)),
         ← h,
+        cache-refs (isOrdinal (length ns)) (fields (body Cache) bs),
         cache-refs (atOrdinal (starts t ns)) (fields (body Cache) bs),
-        names-new ws t ns s e w (refers Cache bs) 1,
         made-turn t ns cache (fields (body Cache) bs) p s e,
       )
+      (ap (pick (not (eqb bad 0)) (refused 5 (p + bad))) (refers-new _ _ _ ws t s (refers Cache bs) 1 ns e w))
 
 -- ---- the newest node
 
@@ -206,8 +220,10 @@ module _ (t : Table) (s : State) (p : ℕ) (bs : List ℕ) where
     -- the answer to a resource behind a processor with n of them
     abbrev withResource : Answer State
     withResource =
-        pick (not (names ws (s .nodes) (refers Resource bs) 1)) (refused 6 p)
-        (pick (leb 58 n) (refused 7 p) (stepped p (grown s (s .nodes) 4 (is.Processor (n + 1)))))
+        pick (eqb (refers Resource bs) 0) (refused 6 p)
+        (pick (not (ltb (refers Resource bs) (s .nodes))) (refused 6 p)
+        (pick (not (ofType ws (refers Resource bs) 1)) (refused 10 p)
+        (pick (leb 58 n) (refused 7 p) (stepped p (grown s (s .nodes) 4 (is.Processor (n + 1)))))))
 
     resource-at : (us : List ℕ) (ms : List Node) → s ≡ stateOf t (node (processor n) us ∷ ms) → Typed ws (typesOf (node (processor n) us ∷ ms))
         → turn t (node (processor n) us ∷ ms) Resource bs p ≡ withResource
@@ -217,10 +233,11 @@ module _ (t : Table) (s : State) (p : ℕ) (bs : List ℕ) where
         let more : List Node = node (processor (suc n)) (us ++ fields (body Resource) bs) ∷ ms in
         turn-judged t ns Resource bs p
         ∙ rw (
+          resource-refs (isOrdinal (length ms)) (fields (body Resource) bs),
           resource-refs (atOrdinal (starts t ms)) (fields (body Resource) bs),
-          names-joined ws t (node (processor n) us) ms s e w (refers Resource bs) 1,
           grown-turn t ns more p s (s .nodes) 4 (is.Processor (n + 1)) e (rw e refl) (omega arith) (ap is.Processor (add-one n)),
         )
+        (refers-joined _ _ _ ws t s (refers Resource bs) 1 (node (processor n) us) ms e w)
 
     pub resource-turn : (ns : List Node) → s ≡ stateOf t ns → s .newest ≡ is.Processor n → Typed ws (typesOf ns) → turn t ns Resource bs p ≡ withResource
     resource-turn ns e h w = let (us, ms, q) = parted t ns s (is.Processor n) e h in rw q (resource-at us ms (rw q at e) (rw q at w))
@@ -244,17 +261,18 @@ module _ (t : Table) (s : State) (p : ℕ) (bs : List ℕ) where
   module _ (i j : ℕ) (k : Kind) (tests : ℕ → ℕ → List Bool) (field : ℕ → ℕ → ℕ) (v : ℕ) (small : Sound s)
       (same : (ns : List Node) → step k (fields (body k) bs) ns ≡ setting tests field v (newest ns))
       (free : (ok : ℕ → ℕ → Bool) (vs : List ℕ) → refsGood ok (body k) vs ≡ true) where
-    set-at : (us : List ℕ) (ms : List Node) → s ≡ stateOf t (node (matrix i j) us ∷ ms) → turn t (node (matrix i j) us ∷ ms) k bs p ≡ pick (not (all (tests i j))) (refused 5 p) (given s)
+    set-at : (us : List ℕ) (ms : List Node) → s ≡ stateOf t (node (matrix i j) us ∷ ms) → turn t (node (matrix i j) us ∷ ms) k bs p ≡ pick (not (all (tests i j))) (refused 5 (p + badIn k (tests i j))) (given s)
     unfolding setting sizes
     set-at us ms e =
         let ns : List Node = node (matrix i j) us ∷ ms in
         let l : front t + (sizes ms + size (matrix i j)) ≤ limit = rw e at (small .short) in
-        turn-judged t ns k bs p ∙ ap (judged t k (fields (body k) bs) p) (same ns) ∙ rw (free, le-ltb limit _ l, e)
+        turn-judged t ns k bs p ∙ ap (judged t k (fields (body k) bs) p) (same ns)
+        ∙ rw (free (isOrdinal (length ms)) (fields (body k) bs), free (atOrdinal (starts t ms)) (fields (body k) bs), le-ltb limit _ l, e)
 
-    pub set-turn : (ns : List Node) → s ≡ stateOf t ns → s .newest ≡ is.Matrix i j → turn t ns k bs p ≡ pick (not (all (tests i j))) (refused 5 p) (given s)
+    pub set-turn : (ns : List Node) → s ≡ stateOf t ns → s .newest ≡ is.Matrix i j → turn t ns k bs p ≡ pick (not (all (tests i j))) (refused 5 (p + badIn k (tests i j))) (given s)
     set-turn ns e h = let (us, ms, q) = parted t ns s (is.Matrix i j) e h in rw q (set-at us ms (rw q at e))
 
     -- where code asks for the first bad field
     pub set-asked : (bad : ℕ) → bad ≡ badIn k (tests i j) → (ns : List Node) → s ≡ stateOf t ns → s .newest ≡ is.Matrix i j
-        → turn t ns k bs p ≡ pick (not (eqb bad 0)) (refused 5 p) (given s)
+        → turn t ns k bs p ≡ pick (not (eqb bad 0)) (refused 5 (p + bad)) (given s)
     set-asked bad q ns e h = set-turn ns e h ∙ rw (all-bad 1 (body k) (tests i j) (omega arith), ← q)

@@ -15,7 +15,7 @@ use Rattle.recipe.specs.declared.Kind.the-variants.{Processor, Resource,
 use Rattle.recipe.specs.declared.Named.{Named}
 use Rattle.recipe.specs.declared.Named.the-variants.{As, Nothing}
 use Rattle.recipe.specs.declared.Refusal.{Refusal}
-use Rattle.recipe.specs.declared.Refusal.the-variants.{NoHead, BadKind, Cut, Misplaced, BadField, BadRef, FullNode, TooLong}
+use Rattle.recipe.specs.declared.Refusal.the-variants.{NoHead, BadKind, Cut, Misplaced, BadField, Forward, WrongKind, FullNode, TooLong}
 use Rattle.recipe.specs.declared.Checked.{Checked}
 use Rattle.recipe.specs.declared.Checked.the-variants.{Good, Refused}
 use Rattle.recipe.specs.Kinds.{meantKind, named}
@@ -76,7 +76,7 @@ one-kind = sole-meant named namedIn named-back
 -- the refusal of a number
 abbrev pub refusalOf : ℕ → Refusal
 refusalOf n =
-    pick (eqb n 1) NoHead (pick (eqb n 2) BadKind (pick (eqb n 3) Cut (pick (eqb n 4) Misplaced (pick (eqb n 5) BadField (pick (eqb n 6) BadRef (pick (eqb n 7) FullNode TooLong))))))
+    pick (eqb n 1) NoHead (pick (eqb n 2) BadKind (pick (eqb n 3) Cut (pick (eqb n 4) Misplaced (pick (eqb n 5) BadField (pick (eqb n 6) Forward (pick (eqb n 10) WrongKind (pick (eqb n 7) FullNode TooLong)))))))
 
 pub refusal-back : (f : Refusal) → refusalOf (number f) ≡ f
 refusal-back NoHead = refl
@@ -84,7 +84,8 @@ refusal-back BadKind = refl
 refusal-back Cut = refl
 refusal-back Misplaced = refl
 refusal-back BadField = refl
-refusal-back BadRef = refl
+refusal-back Forward = refl
+refusal-back WrongKind = refl
 refusal-back FullNode = refl
 refusal-back TooLong = refl
 

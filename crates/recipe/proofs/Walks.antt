@@ -16,10 +16,11 @@ use Rattle.format.specs.Table.{Table, pptt, srat, hmat, code, front, limit, Hea
 use Rattle.format.specs.Form.{Form, processor, cache, memory, acpi, pci, rintc, domain, matrix, side, typeOf, size}
 use Rattle.format.specs.Node.{Node, sizes}
 use Rattle.format.specs.Kind.{Kind, Processor, Resource, Cache, Cell, kindNumber, kindOf, body}
-use Rattle.format.specs.Recipe.{Newest, cutAs, skip, cut, resource, step, added, fault, since, run, tableOf, headed, meaning}
+use Rattle.format.specs.Recipe.{Newest, cutAs, skip, cut, resource, step, added, fault, faultAt, since, run, tableOf, headed, meaning}
 use Rattle.laws.proofs.Bytes.{drop-turn, value-byte}
 use Rattle.laws.proofs.Finds.{never, unless-given}
 use Rattle.laws.proofs.Lays.{both-true}
+use Rattle.laws.proofs.Fields.{fault-within}
 use Rattle.laws.proofs.Offsets.{fields-at}
 use Rattle.laws.proofs.Grows.{View, seesProcessor, seesMatrix, seesSide, seesOther, view, passed}
 use Rattle.laws.proofs.Builds.{kind-home}
@@ -33,7 +34,7 @@ use Rattle.recipe.specs.declared.Newest.the-variants as is
 use Rattle.recipe.specs.declared.Refusal.{Refusal}
 use Rattle.recipe.specs.declared.State.{State}
 use Rattle.recipe.specs.declared.Step.{Step}
-use Rattle.recipe.specs.declared.Step.the-variants.{Next, Refused}
+use Rattle.recipe.specs.declared.Step.the-variants.{Next, Refused, BadField}
 use Rattle.recipe.specs.Answers.{number, outlined}
 use Rattle.recipe.specs.Machine.{stateOf, Sound, typesOf, Bits, Typed, Clear, noted, stepped, turn, TurnsWith, whole, Stands}
 use Rattle.recipe.proofs.Types.{bits-parts, clear-next, typed-zero, typed-one}
@@ -119,12 +120,15 @@ front-short srat = omega arith
 front-short hmat = omega arith
 
 -- a refusal of a step is one of the whole
-refused-also : {A B : Type 0} (f n p : ℕ) (x : A) (b : Answer B) → refused n p ≡ unless f p (given x) → unless f p b ≡ refused n p
-refused-also f n p x b e = go (eqb f 0) e
+refused-also : {A B : Type 0} (f q n p : ℕ) (x : A) (b : Answer B) → refused n p ≡ unless f q (given x) → (unless f q b ≡ refused n p) × (p ≡ q)
+refused-also f q n p x b e = go (eqb f 0) e
   where
-    go : (y : Bool) → refused n p ≡ pick y (given x) (refused f p) → pick y b (refused f p) ≡ refused n p
+    go : (y : Bool) → refused n p ≡ pick y (given x) (refused f q) → (pick y b (refused f q) ≡ refused n p) × (p ≡ q)
     go true e = absurd (let z : _≡_ {A = ℕ} 0 1 = cc in omega arith)
-    go false e = let z : f ≡ n = cc in rw z
+    go false e =
+        let i : f ≡ n = cc in
+        let j : p ≡ q = cc in
+        (rw (i, j), j)
 
 module _ (r : List ℕ) (h : Head) where
   pub starts-so : (ws : List ℕ) → (h .table ≡ pptt → Typed ws []) → Stands r h 28 (stateOf (h .table) []) ws
@@ -156,22 +160,38 @@ module _ (r : List ℕ) (h : Head) where
           vs : List ℕ
           vs = fields (body k) (drop (p + 1) r)
 
-          called-at : whole r h ≡ unless (fault (h .table) (w .nodes) k vs) p (run h (since (w .nodes) (added k vs (w .nodes)) p (w .newer)) (added k vs (w .nodes)) (cut (h .table) 0 (p + 1 + width (body k)) (drop (p + 1 + width (body k)) r)))
-          unfolding cutAs run vs
+          n : ℕ
+          n = fault (h .table) (w .nodes) k vs
+
+          place : ℕ
+          place = p + faultAt n k (step k vs (w .nodes) .ranges)
+
+          called-at : whole r h ≡ unless n place (run h (since (w .nodes) (added k vs (w .nodes)) p (w .newer)) (added k vs (w .nodes)) (cut (h .table) 0 (p + 1 + width (body k)) (drop (p + 1 + width (body k)) r)))
+          unfolding cutAs run vs n place
           called-at = w .same ∙ rw (cut-at (h .table) r p l, e, le-ltb _ _ c)
 
           module _ (x : Step) (d : TurnsWith ws k (drop (p + 1) r) s x) where
-            turned : stepped p x ≡ turn (h .table) (w .nodes) k (drop (p + 1) r) p
+            turned : stepped p x ≡ unless n place (given (stateOf (h .table) (added k vs (w .nodes))))
+            unfolding vs n place
             turned = d (h .table) (w .nodes) p (w .is) (at r p) e (w .typed)
 
             pub stops : (f : Refusal) → x ≡ Refused f → whole r h ≡ refused (number f) p
-            unfolding vs
-            stops f q = called-at ∙ refused-also (fault (h .table) (w .nodes) k vs) (number f) p _ _ (rw q at turned)
+            stops f q = called-at ∙ refused-also n place (number f) p _ _ (rw q at turned) .0
+
+            pub stops-at : (by : ℕ) → x ≡ BadField by → whole r h ≡ refused 5 (p + by)
+            stops-at by q = called-at ∙ refused-also n place 5 (p + by) _ _ (rw q at turned) .0
+
+            -- a bad field is one of the record
+            pub within : (by : ℕ) → x ≡ BadField by → by ≤ 1 + width (body k)
+            unfolding place
+            within by q =
+                let i : p + by ≡ place = refused-also {B = ℕ} n place 5 (p + by) _ (given 0) (rw q at turned) .1 in
+                omega (arith, i, fault-within n k (step k vs (w .nodes) .ranges))
 
             pub goes : (s′ : State) → x ≡ Next s′ → Stands r h (p + 1 + width (body k)) s′ (noted k (s .nodes) ws)
-            unfolding vs
+            unfolding vs n place
             goes s′ q =
-                let (z, g) = unless-given (fault (h .table) (w .nodes) k vs) p (given (stateOf (h .table) (added k vs (w .nodes)))) (sym (rw q at turned)) in
+                let (z, g) = unless-given n place (given (stateOf (h .table) (added k vs (w .nodes)))) (sym (rw q at turned)) in
                 let y = passed (h .table) (w .nodes) k vs z in
                 let l : sizes (w .nodes) ≤ limit = omega (arith, w .short) in
                 record {
@@ -227,7 +247,7 @@ module _ (r : List ℕ) where
     cut-head l = rw (value-byte r 0, e, lt-ltb _ _ l)
 
     module _ (l : 28 ≤ length r) where
-      pub no-table : tableOf (value (part r 1 1)) ≡ none → meaning r ≡ refused 5 0
+      pub no-table : tableOf (value (part r 1 1)) ≡ none → meaning r ≡ refused 5 1
       unfolding meaning headed
       no-table z = rw (value-byte r 0, e, le-ltb _ _ l, value-byte r 1, z)
 

@@ -1,4 +1,4 @@
--- What the answers of the code are in the words of the format: document 01's number and place, or the table and its length.
+-- What the answers of the code are in the words of the format: a refusal's number and place, or the table and its length.
 use Prim.Native.Nat.{ℕ}
 use Rattle.format.specs.Bytes.{Answer, refused, given, andThen}
 use Rattle.format.specs.Table.{Table}
@@ -6,7 +6,7 @@ use Rattle.format.specs.Build.{lengthOf}
 use Rattle.format.specs.Recipe.{Meaning}
 use Rattle.header.specs.Header.{meant}
 use Rattle.recipe.specs.declared.Refusal.{Refusal}
-use Rattle.recipe.specs.declared.Refusal.the-variants.{NoHead, BadKind, Cut, Misplaced, BadField, BadRef, FullNode, TooLong}
+use Rattle.recipe.specs.declared.Refusal.the-variants.{NoHead, BadKind, Cut, Misplaced, BadField, Forward, WrongKind, FullNode, TooLong}
 use Rattle.recipe.specs.declared.Checked.{Checked}
 use Rattle.recipe.specs.declared.Checked.the-variants.{Good, Refused}
 
@@ -16,7 +16,8 @@ number BadKind = 2
 number Cut = 3
 number Misplaced = 4
 number BadField = 5
-number BadRef = 6
+number Forward = 6
+number WrongKind = 10
 number FullNode = 7
 number TooLong = 8
 

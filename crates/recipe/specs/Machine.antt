@@ -2,7 +2,7 @@
 use mathlib.Core.Path.{_≡_}
 use Prim.Native.Nat.{ℕ, _+_, _-_, _*_, _/_, _%_, _^_, _≤_, _<_}
 use mathlib.Core.List.{List, [], _∷_, _++_}
-use mathlib.Core.Bool.{Bool, false}
+use mathlib.Core.Bool.{Bool}
 use mathlib.Core.Option.{some}
 use lib.ListN.{length, take, drop, set}
 use lib.Dec.{eqb, ltb}
@@ -12,14 +12,14 @@ use Rattle.format.specs.Table.{Table, front, limit, pptt, Head}
 use Rattle.format.specs.Form.{typeOf}
 use Rattle.format.specs.Node.{Node, sizes}
 use Rattle.format.specs.Kind.{Kind, Cache, kindNumber, kindOf, body}
-use Rattle.format.specs.Recipe.{Newest, aProcessor, aMatrix, aSide, other, newest, added, fault, cut, Meaning, run}
+use Rattle.format.specs.Recipe.{Newest, aProcessor, aMatrix, aSide, other, newest, step, added, fault, faultAt, cut, Meaning, run}
 use Rattle.header.specs.Header.{tableNamed}
 use Rattle.recipe.specs.declared.Newest as kept
 use Rattle.recipe.specs.declared.Newest.the-variants as is
 use Rattle.recipe.specs.declared.State.{State}
-use Rattle.recipe.specs.declared.Refusal.the-variants.{BadField, TooLong}
+use Rattle.recipe.specs.declared.Refusal.the-variants.{TooLong}
 use Rattle.recipe.specs.declared.Step.{Step}
-use Rattle.recipe.specs.declared.Step.the-variants.{Next, Refused}
+use Rattle.recipe.specs.declared.Step.the-variants.{Next, Refused, BadField}
 use Rattle.recipe.specs.Answers.{number}
 use Rattle.recipe.specs.Kinds.{referenceOf, ordinalIn}
 
@@ -47,7 +47,7 @@ grown s n by w =
 
 -- the state with one node more, unless it has a bad field or the table is too long
 abbrev pub madeBy : State → ℕ → ℕ → kept.Newest → Step
-madeBy s bad n w = pick (eqb bad 0) (grown s (s .nodes + 1) n w) (Refused BadField)
+madeBy s bad n w = pick (eqb bad 0) (grown s (s .nodes + 1) n w) (BadField bad)
 
 -- ---- the types of the nodes, the oldest first, and their bits in words of 64
 
@@ -84,9 +84,9 @@ pub record Clear (ws : List ℕ) (i : ℕ) : Type 0 where
 abbrev pub noted : Kind → ℕ → List ℕ → List ℕ
 noted k i ws = pick (eqb (kindNumber k) (kindNumber Cache)) (set ws (i / 64) (at ws (i / 64) + 2 ^ (i % 64))) ws
 
--- a reference is below the ordinal own, and names a node of the type ty
-abbrev pub names : List ℕ → ℕ → ℕ → ℕ → Bool
-names ws own to ty = pick (eqb to 0) false (pick (ltb to own) (eqb (bitAt ws (to - 1)) ty) false)
+-- the node that an ordinal names has the type ty
+abbrev pub ofType : List ℕ → ℕ → ℕ → Bool
+ofType ws to ty = eqb (bitAt ws (to - 1)) ty
 
 -- the ordinal that the reference of a record names, whose body is bs; 0 for none
 abbrev pub refers : Kind → List ℕ → ℕ
@@ -97,10 +97,14 @@ refers k bs = ordinalIn (referenceOf k bs)
 abbrev pub stepped : ℕ → Step → Answer State
 stepped p (Next s) = given s
 stepped p (Refused f) = refused (number f) p
+stepped p (BadField by) = refused 5 (p + by)
 
 -- what a record of kind k at place p, with the body bs, does behind the nodes ns
 abbrev pub turn : Table → List Node → Kind → List ℕ → ℕ → Answer State
-turn t ns k bs p = unless (fault t ns k (fields (body k) bs)) p (given (stateOf t (added k (fields (body k) bs) ns)))
+turn t ns k bs p =
+    let vs : List ℕ = fields (body k) bs in
+    let n : ℕ = fault t ns k vs in
+    unless n (p + faultAt n k (step k vs ns .ranges)) (given (stateOf t (added k vs ns)))
 
 -- a step is that turn, whatever the nodes are that the state stands for
 abbrev pub Turns : Kind → List ℕ → State → Step → Type 0

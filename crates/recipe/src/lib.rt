@@ -2,7 +2,7 @@
 ghost use mathlib.Core.Path.{_≡_};
 ghost use Prim.Native.Nat.{ℕ, _+_, _≤_, _<_};
 ghost use mathlib.Core.List.{List, []};
-ghost use mathlib.Core.Bool.{true, false};
+ghost use mathlib.Core.Bool.{true};
 ghost use lib.ListN.{length, drop};
 ghost use lib.Dec.{eqb};
 ghost use Rattle.format.specs.Bytes.{pick, part};
@@ -14,7 +14,7 @@ ghost use Rattle.format.specs.Kind as format;
 ghost use Rattle.header.specs.Header.{meant};
 ghost use Rattle.recipe.specs.Kinds.{meantKind, named, referenceOf};
 ghost use Rattle.recipe.specs.Answers.{shown, outlined};
-ghost use Rattle.recipe.specs.Machine.{stateOf, Sound, grown, madeBy, bitAt, Clear, noted, names, Typed, Turns, TurnsWith, Stands};
+ghost use Rattle.recipe.specs.Machine.{stateOf, Sound, grown, madeBy, bitAt, Clear, noted, ofType, Typed, Turns, TurnsWith, Stands};
 use header::Table;
 use header::TableHeader;
 use hmat::Cell;
@@ -34,6 +34,9 @@ use srat::RintcAffinity;
 
 // The length of a head's record.
 pub const HEAD_LEN: usize = 1 + TableHeader::BODY;
+
+// Where the table's code stands in a recipe: the head's first field.
+const CODE_AT: usize = 1 + TableHeader::CODE_AT;
 
 // ---- kinds
 
@@ -186,7 +189,8 @@ pub enum Refusal {
     Cut,
     Misplaced,
     BadField,
-    BadRef,
+    Forward,
+    WrongKind,
     FullNode,
     TooLong,
 }
@@ -215,9 +219,11 @@ struct State {
     newest: Newest,
 }
 
+// What a record does: the state with it, a refusal at its kind byte, or a bad field so many bytes behind that.
 enum Step {
     Next(State),
     Refused(Refusal),
+    BadField(usize),
 }
 
 impl State {
@@ -257,7 +263,7 @@ impl State {
         ensures { λ r. ⌜ r ≡ madeBy self bad len newest ⌝ }
     {
         if bad != 0 {
-            return Step::Refused(Refusal::BadField);
+            return Step::BadField(bad);
         }
         self.grown(self.nodes + 1, len, newest)
     }
@@ -291,39 +297,31 @@ fn note_type(types: &mut [u64], kind: Kind, i: usize)
     types[j] = types[j] + (1 << (i % 64));
 }
 
-// A handle is none, or names a processor below the ordinal own.
-fn is_processor_or_none(types: &[u64], own: usize, h: ProcessorHandle) -> bool
-    ensures { λ r. ⌜ r ≡ pick (eqb (h .0) 0) true (names (now (types .entry)) own (h .0) 0) ⌝ }
+// A handle is none, or names a processor.
+fn is_processor_or_none(types: &[u64], h: ProcessorHandle) -> bool
+    ensures { λ r. ⌜ r ≡ pick (eqb (h .0) 0) true (ofType (now (types .entry)) (h .0) 0) ⌝ }
 {
     if h.0 == 0 {
         return true;
-    }
-    if own <= h.0 as usize {
-        return false;
     }
     type_at(types, h.0 as usize - 1) == ProcessorNode::TYPE
 }
 
-// A handle names a cache below the ordinal own.
-fn is_cache(types: &[u64], own: usize, h: CacheHandle) -> bool
-    ensures { λ r. ⌜ r ≡ names (now (types .entry)) own (h .0) 1 ⌝ }
+// A handle, which is not none, names a cache.
+fn is_cache(types: &[u64], h: CacheHandle) -> bool
+    requires { ⌜ 0 < h .0 ⌝ }
+    ensures { λ r. ⌜ r ≡ ofType (now (types .entry)) (h .0) 1 ⌝ }
 {
-    if h.0 == 0 {
-        return false;
-    }
-    if own <= h.0 as usize {
-        return false;
-    }
     type_at(types, h.0 as usize - 1) == CacheNode::TYPE
 }
 
-fn is_cache_or_none(types: &[u64], own: usize, h: CacheHandle) -> bool
-    ensures { λ r. ⌜ r ≡ pick (eqb (h .0) 0) true (names (now (types .entry)) own (h .0) 1) ⌝ }
+fn is_cache_or_none(types: &[u64], h: CacheHandle) -> bool
+    ensures { λ r. ⌜ r ≡ pick (eqb (h .0) 0) true (ofType (now (types .entry)) (h .0) 1) ⌝ }
 {
     if h.0 == 0 {
         return true;
     }
-    is_cache(types, own, h)
+    is_cache(types, h)
 }
 
 // ---- PPTT
@@ -334,8 +332,11 @@ fn processor(types: &[u64], bytes: &[u8], st: State) -> Step
 {
     let parent = ProcessorNode::parent_in(bytes);
     let own = st.nodes + 1;
-    if !is_processor_or_none(types, own, parent) {
-        return Step::Refused(Refusal::BadRef);
+    if own <= parent.0 as usize {
+        return Step::Refused(Refusal::Forward);
+    }
+    if !is_processor_or_none(types, parent) {
+        return Step::Refused(Refusal::WrongKind);
     }
     st.grown(own, ProcessorNode::LEN, Newest::Processor(0))
 }
@@ -350,8 +351,14 @@ fn resource(types: &[u64], bytes: &[u8], st: State) -> Step
     };
     let own = st.nodes;
     let cache = Resource::from_body(bytes).cache;
-    if !is_cache(types, own, cache) {
-        return Step::Refused(Refusal::BadRef);
+    if cache.0 == 0 {
+        return Step::Refused(Refusal::Forward);
+    }
+    if own <= cache.0 as usize {
+        return Step::Refused(Refusal::Forward);
+    }
+    if !is_cache(types, cache) {
+        return Step::Refused(Refusal::WrongKind);
     }
     if ProcessorNode::MAX_RESOURCES <= n {
         return Step::Refused(Refusal::FullNode);
@@ -364,13 +371,17 @@ fn cache(types: &[u64], bytes: &[u8], st: State) -> Step
     ensures { λ r. ⌜ TurnsWith (now (types .entry)) format.Cache (now (bytes .entry)) st r ⌝ }
 {
     let node = CacheNode::from_body(bytes);
-    if node.bad_field() != 0 {
-        return Step::Refused(Refusal::BadField);
+    let bad = node.bad_field();
+    if bad != 0 {
+        return Step::BadField(bad);
     }
     let next_level = node.next_level;
     let own = st.nodes + 1;
-    if !is_cache_or_none(types, own, next_level) {
-        return Step::Refused(Refusal::BadRef);
+    if own <= next_level.0 as usize {
+        return Step::Refused(Refusal::Forward);
+    }
+    if !is_cache_or_none(types, next_level) {
+        return Step::Refused(Refusal::WrongKind);
     }
     st.grown(own, CacheNode::LEN, Newest::Other)
 }
@@ -397,8 +408,9 @@ fn initiator(bytes: &[u8], st: State) -> Step
     let Newest::Matrix(i, _) = newest else {
         return Step::Refused(Refusal::Misplaced);
     };
-    if Value::from_body(bytes).bad_field(i) != 0 {
-        return Step::Refused(Refusal::BadField);
+    let bad = Value::from_body(bytes).bad_field(i);
+    if bad != 0 {
+        return Step::BadField(bad);
     }
     Step::Next(st)
 }
@@ -411,8 +423,9 @@ fn target(bytes: &[u8], st: State) -> Step
     let Newest::Matrix(_, t) = newest else {
         return Step::Refused(Refusal::Misplaced);
     };
-    if Value::from_body(bytes).bad_field(t) != 0 {
-        return Step::Refused(Refusal::BadField);
+    let bad = Value::from_body(bytes).bad_field(t);
+    if bad != 0 {
+        return Step::BadField(bad);
     }
     Step::Next(st)
 }
@@ -425,8 +438,9 @@ fn cell(bytes: &[u8], st: State) -> Step
     let Newest::Matrix(i, t) = newest else {
         return Step::Refused(Refusal::Misplaced);
     };
-    if Cell::from_body(bytes).bad_field(i, t) != 0 {
-        return Step::Refused(Refusal::BadField);
+    let bad = Cell::from_body(bytes).bad_field(i, t);
+    if bad != 0 {
+        return Step::BadField(bad);
     }
     Step::Next(st)
 }
@@ -535,6 +549,9 @@ fn walk(recipe: &[u8], table: Table, types: &mut [u64]) -> Checked
             Step::Refused(refusal) => {
                 return Checked::Refused(refusal, at);
             }
+            Step::BadField(by) => {
+                return Checked::Refused(Refusal::BadField, at + by);
+            }
         }
     }
     Checked::Good(table, st.length)
@@ -550,13 +567,13 @@ pub fn check(recipe: &[u8]) -> Checked
     if recipe.len() < HEAD_LEN {
         return Checked::Refused(Refusal::Cut, 0);
     }
-    match field::get_u8(recipe, 1) {
+    match field::get_u8(recipe, CODE_AT) {
         Table::PPTT_CODE => {
             let mut types = [0u64; WORDS];
             walk(recipe, Table::Pptt, &mut types)
         }
         Table::SRAT_CODE => walk(recipe, Table::Srat, &mut [0u64; 1]),
         Table::HMAT_CODE => walk(recipe, Table::Hmat, &mut [0u64; 1]),
-        _ => Checked::Refused(Refusal::BadField, 0),
+        _ => Checked::Refused(Refusal::BadField, CODE_AT),
     }
 }

@@ -1,14 +1,9 @@
--- `is_processor_or_none` meets its contract, test by test.
+-- `is_processor_or_none` meets its contract: what is not 0 has to name a processor.
 use native.Mathlib.Omega.{arith}
 use borrow.Author.Needs.{needs}
-use borrow.Author.Tests.{le-ltb, lt-ltb, eq-eqb, ne-eqb}
+use borrow.Author.Tests.{eq-eqb, ne-eqb}
 use Rattle.recipe.proofs.is_processor_or_none.Statement.{statement}
 use Rattle.recipe.proofs.is_processor_or_none.Tie as tie
-
-returns-3 : tie.Need-returns-3
-returns-3 c =
-    let d = c .before .before in
-    rw (ne-eqb _ _ (d .before .before .if1 .left), lt-ltb _ _ (d .if2 .left), c .type-at .ensures)
 
 pub is-processor-or-none-spec : {M : Type 1} → statement M
 is-processor-or-none-spec =
@@ -16,8 +11,6 @@ is-processor-or-none-spec =
     (tie.spec
     (λ c. rw (eq-eqb _ _ (c .if1 .taken)))
     (λ c. search needs)
-    (λ c. rw (ne-eqb _ _ (c .before .before .if1 .left), le-ltb _ _ (c .if2 .taken)))
-    (λ c. search needs)
-    (λ c. omega (arith, c .before .before .before .if1 .left))
+    (λ c. omega (arith, c .before .if1 .left))
     (λ c κs. search needs)
-    returns-3)
+    (λ c. rw (ne-eqb _ _ (c .before .before .if1 .left), c .type-at .ensures)))

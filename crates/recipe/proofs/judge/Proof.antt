@@ -25,7 +25,7 @@ there kind k e bs h = sym (length-take-le (width (body (meantKind k))) bs (rw e 
 -- a domain has no field that is tested
 returns-8 : tie.Need-returns-8
 unfolding body step refsGood ranges firstBad badField
-returns-8 c = rw (c .before .enum-told8 .given .1, c .made5 .ensures) (λ t ns p e b q w. plain-turn format.Domain domain _ _ (λ ms. refl) (λ ok vs. refl) t ns p _ _ refl e)
+returns-8 c = rw (c .before .enum-told8 .given .1, c .made5 .ensures) (λ t ns p e b q w. plain-turn format.Domain domain _ _ refl (λ ms. refl) (λ ok vs. refl) t ns p _ _ refl e)
 
 pub judge-spec : {M : Type 1} → statement M
 unfolding body width step refsGood
@@ -85,14 +85,14 @@ judge-spec =
     (λ c. rw (c .before .before .enum-told .given .1) (λ t ns p e b q w. c .processor .ensures t ns p e b q w ∙ turn-window t ns format.Processor _ p))
     (λ c. rw (c .before .before .enum-told2 .given .1) (λ t ns p e b q w. c .resource .ensures t ns p e b q w ∙ turn-window t ns format.Resource _ p))
     (λ c. rw (c .before .before .enum-told3 .given .1) (λ t ns p e b q w. c .cache .ensures t ns p e b q w ∙ turn-window t ns format.Cache _ p))
-    (λ c. let d = c .before .before in rw (d .before .before .enum-told4 .given .1, c .made .ensures) (λ t ns p e b q w. plain-turn format.Memory memory _ _ (λ ms. refl) (λ ok vs. refl) t ns p _ _ (c .before .bad-field .ensures ∙ ap badField (d .from-body .ensures)) e ∙ turn-window t ns format.Memory _ p))
-    (λ c. let d = c .before .before in rw (d .before .before .enum-told5 .given .1, c .made2 .ensures) (λ t ns p e b q w. plain-turn format.Acpi acpi _ _ (λ ms. refl) (λ ok vs. refl) t ns p _ _ (c .before .bad-field2 .ensures ∙ ap badField (d .from-acpi-body .ensures)) e ∙ turn-window t ns format.Acpi _ p))
-    (λ c. let d = c .before .before in rw (d .before .before .enum-told6 .given .1, c .made3 .ensures) (λ t ns p e b q w. plain-turn format.Pci pci _ _ (λ ms. refl) (λ ok vs. refl) t ns p _ _ (c .before .bad-field3 .ensures ∙ ap badField (d .from-pci-body .ensures)) e ∙ turn-window t ns format.Pci _ p))
-    (λ c. let d = c .before .before in rw (d .before .before .enum-told7 .given .1, c .made4 .ensures) (λ t ns p e b q w. plain-turn format.Rintc rintc _ _ (λ ms. refl) (λ ok vs. refl) t ns p _ _ (c .before .bad-field4 .ensures ∙ ap badField (d .from-body2 .ensures)) e ∙ turn-window t ns format.Rintc _ p))
+    (λ c. let d = c .before .before in rw (d .before .before .enum-told4 .given .1, c .made .ensures) (λ t ns p e b q w. plain-turn format.Memory memory _ _ refl (λ ms. refl) (λ ok vs. refl) t ns p _ _ (c .before .bad-field .ensures ∙ ap badField (d .from-body .ensures)) e ∙ turn-window t ns format.Memory _ p))
+    (λ c. let d = c .before .before in rw (d .before .before .enum-told5 .given .1, c .made2 .ensures) (λ t ns p e b q w. plain-turn format.Acpi acpi _ _ refl (λ ms. refl) (λ ok vs. refl) t ns p _ _ (c .before .bad-field2 .ensures ∙ ap badField (d .from-acpi-body .ensures)) e ∙ turn-window t ns format.Acpi _ p))
+    (λ c. let d = c .before .before in rw (d .before .before .enum-told6 .given .1, c .made3 .ensures) (λ t ns p e b q w. plain-turn format.Pci pci _ _ refl (λ ms. refl) (λ ok vs. refl) t ns p _ _ (c .before .bad-field3 .ensures ∙ ap badField (d .from-pci-body .ensures)) e ∙ turn-window t ns format.Pci _ p))
+    (λ c. let d = c .before .before in rw (d .before .before .enum-told7 .given .1, c .made4 .ensures) (λ t ns p e b q w. plain-turn format.Rintc rintc _ _ refl (λ ms. refl) (λ ok vs. refl) t ns p _ _ (c .before .bad-field4 .ensures ∙ ap badField (d .from-body2 .ensures)) e ∙ turn-window t ns format.Rintc _ p))
     returns-8
     (λ c. rw (c .before .before .enum-told9 .given .1) (λ t ns p e b q w. c .matrix .ensures t ns p e ∙ turn-window t ns format.Matrix _ p))
     (λ c. rw (c .before .before .enum-told10 .given .1) (λ t ns p e b q w. c .initiator .ensures t ns p e ∙ turn-window t ns format.Initiator _ p))
     (λ c. rw (c .before .before .enum-told11 .given .1) (λ t ns p e b q w. c .target .ensures t ns p e ∙ turn-window t ns format.Target _ p))
     (λ c. rw (c .before .before .enum-told12 .given .1) (λ t ns p e b q w. c .cell .ensures t ns p e ∙ turn-window t ns format.Cell _ p))
-    (λ c. let d = c .before .before in rw (d .before .before .enum-told13 .given .1, c .made6 .ensures) (λ t ns p e b q w. plain-turn format.Side (side 0) _ _ (λ ms. refl) (λ ok vs. refl) t ns p _ _ (c .before .bad-field5 .ensures ∙ ap badField (d .from-body3 .ensures)) e ∙ turn-window t ns format.Side _ p))
+    (λ c. let d = c .before .before in rw (d .before .before .enum-told13 .given .1, c .made6 .ensures) (λ t ns p e b q w. plain-turn format.Side (side 0) _ _ refl (λ ms. refl) (λ ok vs. refl) t ns p _ _ (c .before .bad-field5 .ensures ∙ ap badField (d .from-body3 .ensures)) e ∙ turn-window t ns format.Side _ p))
     (λ c. rw (c .before .enum-told14 .given .1) (λ t ns p e b q w. c .handle .ensures _ t ns p e)))

@@ -35,7 +35,7 @@ returns c t ns p e =
     let i : m .initiators ≡ at vs 4 = ap (λ vs. at vs 4) (f .from-body .ensures) in
     let j : m .targets ≡ at vs 5 = ap (λ vs. at vs 5) (f .from-body .ensures) in
     let bad = b .bad-field .ensures ∙ ap (λ vs. badField (node (matrix (at vs 4) (at vs 5)) vs)) (f .from-body .ensures) in
-    rw (c .made .ensures, n, i, j) (plain-turn Matrix (matrix (at vs 4) (at vs 5)) _ _ (λ ms. refl) (λ ok vs. refl) t ns p _ _ bad e)
+    rw (c .made .ensures, n, i, j) (plain-turn Matrix (matrix (at vs 4) (at vs 5)) _ _ refl (λ ms. refl) (λ ok vs. refl) t ns p _ _ bad e)
 
 pub matrix-spec : {M : Type 1} → statement M
 matrix-spec = tie.close (tie.spec (λ c κs. search needs) (λ c κs. search needs) (λ c κs. search needs) made-requires returns)

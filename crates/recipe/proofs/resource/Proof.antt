@@ -1,7 +1,8 @@
--- `resource` meets its contract: behind a processor that has fewer than 58 of them, a cache that is named.
+-- `resource` meets its contract: behind a processor that has fewer than 58 of them, an earlier node that is a cache.
 use mathlib.Core.Path.{_≡_, sym, ap, _∙_}
+use native.Mathlib.Omega.{arith}
 use borrow.Author.Needs.{needs}
-use borrow.Author.Tests.{le-leb, lt-leb}
+use borrow.Author.Tests.{eq-eqb, ne-eqb, le-ltb, lt-ltb, le-leb, lt-leb}
 use Rattle.format.specs.Bytes.{at}
 use Rattle.format.specs.Layout.{fields}
 use Rattle.format.specs.Kind.{Resource, body}
@@ -25,29 +26,54 @@ returns-2 c t ns p e b q w =
     let n = g .before .before in
     let a = n .before .before .before .before .args in
     let v : g .from-body .result .cache .0 ≡ refers Resource (a .bytes .now) = ap (λ vs. at vs 0) (g .from-body .ensures) in
-    sym (resource-turn t (a .st) p (a .bytes .now) _ (a .types .now) ns e (n .newest .given .1) (w (sym (kind-home t b Resource q))) ∙ rw (← v, failed (c .before .is-cache .ensures) (c .if1 .taken)))
+    sym (resource-turn t (a .st) p (a .bytes .now) _ (a .types .now) ns e (n .newest .given .1) (w (sym (kind-home t b Resource q))) ∙ rw (← v, eq-eqb _ _ (c .if1 .taken)))
 
 returns-3 : tie.Need-returns-3
 returns-3 c t ns p e b q w =
-    let d = c .before in
+    let d = c .before .before in
     let g = d .before .before .before in
     let n = g .before .before in
     let a = n .before .before .before .before .args in
     let v : g .from-body .result .cache .0 ≡ refers Resource (a .bytes .now) = ap (λ vs. at vs 0) (g .from-body .ensures) in
     sym (resource-turn t (a .st) p (a .bytes .now) _ (a .types .now) ns e (n .newest .given .1) (w (sym (kind-home t b Resource q)))
-    ∙ rw (← v, passed (d .before .is-cache .ensures) (d .if1 .left), le-leb _ _ (c .if2 .taken)))
+    ∙ rw (← v, ne-eqb _ _ (d .if1 .left), le-ltb _ _ (c .if2 .taken)))
 
 returns-4 : tie.Need-returns-4
 returns-4 c t ns p e b q w =
+    let l = c .before .before in
+    let d = l .before .before in
+    let g = d .before .before .before in
+    let n = g .before .before in
+    let a = n .before .before .before .before .args in
+    let v : g .from-body .result .cache .0 ≡ refers Resource (a .bytes .now) = ap (λ vs. at vs 0) (g .from-body .ensures) in
+    sym (resource-turn t (a .st) p (a .bytes .now) _ (a .types .now) ns e (n .newest .given .1) (w (sym (kind-home t b Resource q)))
+    ∙ rw (← v, ne-eqb _ _ (d .if1 .left), lt-ltb _ _ (l .if2 .left), failed (c .before .is-cache .ensures) (c .if3 .taken)))
+
+returns-5 : tie.Need-returns-5
+returns-5 c t ns p e b q w =
+    let k = c .before in
+    let l = k .before .before in
+    let d = l .before .before in
+    let g = d .before .before .before in
+    let n = g .before .before in
+    let a = n .before .before .before .before .args in
+    let v : g .from-body .result .cache .0 ≡ refers Resource (a .bytes .now) = ap (λ vs. at vs 0) (g .from-body .ensures) in
+    sym (resource-turn t (a .st) p (a .bytes .now) _ (a .types .now) ns e (n .newest .given .1) (w (sym (kind-home t b Resource q)))
+    ∙ rw (← v, ne-eqb _ _ (d .if1 .left), lt-ltb _ _ (l .if2 .left), passed (k .before .is-cache .ensures) (k .if3 .left), le-leb _ _ (c .if4 .taken)))
+
+returns-6 : tie.Need-returns-6
+returns-6 c t ns p e b q w =
     let f = c .before in
-    let d = f .before in
+    let k = f .before in
+    let l = k .before .before in
+    let d = l .before .before in
     let g = d .before .before .before in
     let n = g .before .before in
     let a = n .before .before .before .before .args in
     let v : g .from-body .result .cache .0 ≡ refers Resource (a .bytes .now) = ap (λ vs. at vs 0) (g .from-body .ensures) in
     rw (c .grown .ensures)
     (sym (resource-turn t (a .st) p (a .bytes .now) _ (a .types .now) ns e (n .newest .given .1) (w (sym (kind-home t b Resource q)))
-    ∙ rw (← v, passed (d .before .is-cache .ensures) (d .if1 .left), lt-leb _ _ (f .if2 .left))))
+    ∙ rw (← v, ne-eqb _ _ (d .if1 .left), lt-ltb _ _ (l .if2 .left), passed (k .before .is-cache .ensures) (k .if3 .left), lt-leb _ _ (f .if4 .left))))
 
 pub resource-spec : {M : Type 1} → statement M
 resource-spec =
@@ -56,9 +82,12 @@ resource-spec =
     (λ c. search needs)
     returns
     (λ c κs. search needs)
-    (λ c κs. search needs)
     returns-2
+    (λ c. search needs)
     returns-3
+    (λ c κs. omega (arith, c .before .before .if1 .left))
+    returns-4
+    returns-5
     (λ c. search needs)
     (λ c κs. search needs)
-    returns-4)
+    returns-6)

@@ -11,7 +11,7 @@ use Rattle.recipe.specs.Kinds.{meantKind, named}
 use Rattle.recipe.specs.Answers.{outlined}
 use Rattle.recipe.specs.Machine.{Stands}
 use Rattle.recipe.proofs.Numbers.{body-short}
-use Rattle.recipe.proofs.Walks.{length-noted, starts-so, sound, ends, bad-kind, cut-off, stops, goes, clear}
+use Rattle.recipe.proofs.Walks.{length-noted, starts-so, sound, ends, bad-kind, cut-off, stops, stops-at, within, goes, clear}
 use Rattle.recipe.proofs.walk.Statement.{statement}
 use Rattle.recipe.proofs.walk.Tie as tie
 
@@ -93,8 +93,35 @@ returns-3 c =
     let d = rw (f .rest .ensures) at (y .judge .ensures) in
     sym (ap outlined (stops _ _ _ _ _ (i .before .loop .inv .0) (i .loop-test .taken) _ e (rw (f .rest .ensures, n .body-len .ensures) at (g .if1 .left)) _ d _ (c .before .refusal .given .1)))
 
+add-by : tie.Need-add-t27 Inv-loop μ-loop
+add-by c =
+    let y = c .before .before .before in
+    let g = y .before .before in
+    let f = g .before in
+    let n = f .before in
+    let k = n .before .before in
+    let m = k .before .before in
+    let i = m .before .before in
+    let e = sym (m .kind-of .ensures) ∙ ap named (k .kind .given .1) in
+    let d = rw (f .rest .ensures) at (y .judge .ensures) in
+    let l = within _ _ _ _ _ (i .before .loop .inv .0) (i .loop-test .taken) _ e (rw (f .rest .ensures, n .body-len .ensures) at (g .if1 .left)) _ d _ (c .before .by .given .1) in
+    omega (arith, l, add-end-2 n, n .body-len .ensures)
+
 returns-4 : tie.Need-returns-4 Inv-loop μ-loop
-returns-4 c = sym (ends _ _ _ _ _ (c .before .loop .inv .0) (c .loop-test .left))
+returns-4 c =
+    let y = c .before .before .before in
+    let g = y .before .before in
+    let f = g .before in
+    let n = f .before in
+    let k = n .before .before in
+    let m = k .before .before in
+    let i = m .before .before in
+    let e = sym (m .kind-of .ensures) ∙ ap named (k .kind .given .1) in
+    let d = rw (f .rest .ensures) at (y .judge .ensures) in
+    sym (ap outlined (stops-at _ _ _ _ _ (i .before .loop .inv .0) (i .loop-test .taken) _ e (rw (f .rest .ensures, n .body-len .ensures) at (g .if1 .left)) _ d _ (c .before .by .given .1)))
+
+returns-5 : tie.Need-returns-5 Inv-loop μ-loop
+returns-5 c = sym (ends _ _ _ _ _ (c .before .loop .inv .0) (c .loop-test .left))
 
 pub walk-spec : {M : Type 1} → statement M
 walk-spec =
@@ -127,4 +154,8 @@ walk-spec =
     (λ c. search needs)
     returns-3
     (λ c. search needs)
-    returns-4)
+    add-by
+    (λ c. search needs)
+    returns-4
+    (λ c. search needs)
+    returns-5)

@@ -1,0 +1,51 @@
+-- What order 1 of document 02 left as it was: the meaning of a recipe as document 01 alone has it, and how an answer may differ from it.
+use mathlib.Core.Path.{_≡_}
+use Prim.Native.Nat.{ℕ, _+_, _<_}
+use mathlib.Core.List.{List, [], _∷_}
+use mathlib.Core.Bool.{not}
+use lib.ListN.{length, drop}
+use lib.Dec.{eqb, ltb}
+use Rattle.format.specs.Bytes.{all, firstOf, Answer, refused, given, andThen, orRefused, unless, at, part}
+use Rattle.format.specs.Layout.{refsGood}
+use Rattle.format.specs.Table.{Table, front, limit, Head, headOf}
+use Rattle.format.specs.Node.{Node, sizes, starts, atOrdinal}
+use Rattle.format.specs.Kind.{Kind, body}
+use Rattle.format.specs.Recipe.{Calls, done, badKind, cutOff, called, cut, Step, step, added, Meaning, means, tableOf, meaning}
+
+-- a reference that is not good is 6, for whatever reason
+unfoldable pub faultBefore : Table → List Node → Kind → List ℕ → ℕ
+faultBefore t ns k vs =
+    let s : Step = step k vs ns in
+    firstOf ((not (s .placed), 4)
+    ∷ (not (all (s .ranges)), 5)
+    ∷ (not (refsGood (atOrdinal (starts t (s .earlier))) (body k) vs), 6)
+    ∷ (s .full, 7)
+    ∷ (ltb limit (front t + sizes (s .nodes)), 8) ∷ [])
+
+-- every place is that of a kind byte
+unfoldable pub runBefore : Head → List Node → Calls → Answer Meaning
+runBefore h ns done = given (means h ns)
+runBefore h ns (badKind p) = refused 2 p
+runBefore h ns (cutOff p k) = refused 3 p
+runBefore h ns (called p k vs rest) = unless (faultBefore (h .table) ns k vs) p (runBefore h (added k vs ns) rest)
+
+-- the head's too
+unfoldable pub headedBefore : List ℕ → Answer Head
+headedBefore r =
+    unless (firstOf ((not (eqb (at r 0) 1), 1) ∷ (ltb (length r) 28, 3) ∷ [])) 0
+    (andThen (orRefused 5 0 (tableOf (at r 1))) (λ t. given (headOf t (part r 2 26))))
+
+unfoldable pub meaningBefore : List ℕ → Answer Meaning
+meaningBefore r = andThen (headedBefore r) (λ h. runBefore h [] (cut (h .table) 0 28 (drop 28 r)))
+
+-- how the answer before and the answer now belong together: what is given is the same, and so is a refusal but for two;
+-- 5 is at a place behind the kind byte, and what was 6 may be 10
+pub data Moves {A : Type 0} : Answer A → Answer A → Type 0 where
+  good : (a : A) → Moves (given a) (given a)
+  same : (n p : ℕ) → (n ≡ 5 → ⊥) → Moves (refused n p) (refused n p)
+  field : (p d : ℕ) → 0 < d → Moves (refused 5 p) (refused 5 (p + d))
+  kind : (p : ℕ) → Moves (refused 6 p) (refused 10 p)
+
+-- of every recipe; what is built follows from what it means
+abbrev pub Stays : List ℕ → Type 0
+Stays r = Moves (meaningBefore r) (meaning r)
