@@ -171,7 +171,7 @@ impl TableHeader {
 
     pub const LEN: usize = 36;
 
-    // Where length, revision, checksum and what a head gives stand.
+    // Where length, revision, checksum and what a head gives stand in a header.
     const LENGTH_AT: usize = 4;
 
     const REVISION_AT: usize = 8;

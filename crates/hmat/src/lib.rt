@@ -59,6 +59,11 @@ impl MemoryProximityDomain {
 
     pub const DOMAIN_VALID: u16 = 1;
 
+    // Where the fields stand in a body.
+    pub const INITIATOR_AT: usize = 0;
+
+    pub const MEMORY_AT: usize = 4;
+
     // Kind, initiator, memory.
     const BODY_WIDTHS: [usize; 3] = [1, 4, 4];
 
@@ -148,8 +153,8 @@ impl MemoryProximityDomain {
         ensures { λ r. ⌜ domainNode r ≡ node domain (fields (body Domain) (now (bytes .entry))) ⌝ }
     {
         Self {
-            proximity_domain_initiator: field::get_u32(bytes, 0),
-            proximity_domain_memory: field::get_u32(bytes, 4),
+            proximity_domain_initiator: field::get_u32(bytes, Self::INITIATOR_AT),
+            proximity_domain_memory: field::get_u32(bytes, Self::MEMORY_AT),
         }
     }
 
@@ -303,12 +308,18 @@ impl SystemLocality {
 
     const MAX_TRANSFER_SIZE: u8 = 11;
 
-    // Where the fields that have a range stand in a body.
-    const FLAGS_AT: usize = 0;
+    // Where the fields stand in a body.
+    pub const FLAGS_AT: usize = 0;
 
-    const DATA_TYPE_AT: usize = 1;
+    pub const DATA_TYPE_AT: usize = 1;
 
-    const TRANSFER_SIZE_AT: usize = 2;
+    pub const TRANSFER_SIZE_AT: usize = 2;
+
+    pub const BASE_UNIT_AT: usize = 3;
+
+    pub const INITIATORS_AT: usize = 11;
+
+    pub const TARGETS_AT: usize = 12;
 
     // Kind, flags, data type, transfer size, unit, I, T.
     const BODY_WIDTHS: [usize; 7] = [1, 1, 1, 1, 8, 1, 1];
@@ -559,9 +570,9 @@ impl SystemLocality {
             flags: field::get_u8(bytes, Self::FLAGS_AT),
             data_type: field::get_u8(bytes, Self::DATA_TYPE_AT),
             min_transfer_size: field::get_u8(bytes, Self::TRANSFER_SIZE_AT),
-            entry_base_unit: field::get_u64(bytes, 3),
-            initiators: field::get_u8(bytes, 11) as u32,
-            targets: field::get_u8(bytes, 12) as u32,
+            entry_base_unit: field::get_u64(bytes, Self::BASE_UNIT_AT),
+            initiators: field::get_u8(bytes, Self::INITIATORS_AT) as u32,
+            targets: field::get_u8(bytes, Self::TARGETS_AT) as u32,
         }
     }
 
@@ -664,6 +675,11 @@ impl Value {
     // what is not set
     pub const UNSET: u32 = 0;
 
+    // Where the fields stand in a body.
+    pub const INDEX_AT: usize = 0;
+
+    pub const VALUE_AT: usize = 1;
+
     // Kind, index, number.
     const BODY_WIDTHS: [usize; 3] = [1, 1, 4];
 
@@ -672,8 +688,8 @@ impl Value {
         ensures { λ r. ⌜ valueFields r ≡ fields (body Initiator) (now (bytes .entry)) ⌝ }
     {
         Self {
-            idx: field::get_u8(bytes, 0),
-            value: field::get_u32(bytes, 1),
+            idx: field::get_u8(bytes, Self::INDEX_AT),
+            value: field::get_u32(bytes, Self::VALUE_AT),
         }
     }
 
@@ -714,8 +730,12 @@ impl Cell {
     // in a matrix's record
     pub const LEN: usize = 2;
 
-    // Where the target's index stands in a body.
-    const TARGET_AT: usize = 1;
+    // Where the fields stand in a body.
+    pub const INITIATOR_AT: usize = 0;
+
+    pub const TARGET_AT: usize = 1;
+
+    pub const VALUE_AT: usize = 2;
 
     // Kind, two indices, number.
     const BODY_WIDTHS: [usize; 4] = [1, 1, 1, 2];
@@ -725,9 +745,9 @@ impl Cell {
         ensures { λ r. ⌜ cellFields r ≡ fields (body format.Cell) (now (bytes .entry)) ⌝ }
     {
         Self {
-            initiator_idx: field::get_u8(bytes, 0),
+            initiator_idx: field::get_u8(bytes, Self::INITIATOR_AT),
             target_idx: field::get_u8(bytes, Self::TARGET_AT),
-            value: field::get_u16(bytes, 2),
+            value: field::get_u16(bytes, Self::VALUE_AT),
         }
     }
 
@@ -868,8 +888,12 @@ impl MemorySideCache {
 
     const MAX_POLICY: u32 = 2;
 
-    // Where the field that has a range stands in a body.
-    const ATTRIBUTES_AT: usize = 12;
+    // Where the fields stand in a body.
+    pub const DOMAIN_AT: usize = 0;
+
+    pub const SIZE_AT: usize = 4;
+
+    pub const ATTRIBUTES_AT: usize = 12;
 
     // Kind, domain, size, attributes.
     const BODY_WIDTHS: [usize; 4] = [1, 4, 8, 4];
@@ -1004,8 +1028,8 @@ impl MemorySideCache {
         ensures { λ r. ⌜ sideHead r ≡ node (side 0) (fields (body Side) (now (bytes .entry))) ⌝ }
     {
         Self {
-            proximity_domain: field::get_u32(bytes, 0),
-            cache_size: field::get_u64(bytes, 4),
+            proximity_domain: field::get_u32(bytes, Self::DOMAIN_AT),
+            cache_size: field::get_u64(bytes, Self::SIZE_AT),
             attributes: field::get_u32(bytes, Self::ATTRIBUTES_AT),
             smbios_handles: 0,
         }
@@ -1119,6 +1143,9 @@ impl SmbiosHandle {
     // in a side cache's record
     pub const LEN: usize = 2;
 
+    // Where the field stands in a body.
+    pub const HANDLE_AT: usize = 0;
+
     // Kind, handle.
     const BODY_WIDTHS: [usize; 2] = [1, 2];
 
@@ -1126,7 +1153,7 @@ impl SmbiosHandle {
     pub fn from_body(bytes: &[u8]) -> Self
         ensures { λ r. ⌜ handleFields r ≡ fields (body format.Handle) (now (bytes .entry)) ⌝ }
     {
-        Self(field::get_u16(bytes, 0))
+        Self(field::get_u16(bytes, Self::HANDLE_AT))
     }
 
     // Writes kind byte and body; how many bytes that is.

@@ -76,10 +76,14 @@ impl ProcessorNode {
     // with as many as it takes
     const LEN_MOST: usize = Self::LEN + Resource::LEN * Self::MAX_RESOURCES as usize;
 
-    // Where the parent stands in a body.
-    const PARENT_AT: usize = 4;
+    // Where the fields stand in a body.
+    pub const FLAGS_AT: usize = 0;
 
-    // Where it stands in a record.
+    pub const PARENT_AT: usize = 4;
+
+    pub const ID_AT: usize = 8;
+
+    // Where the parent stands in a record.
     const PARENT_OFFSET: usize = 8;
 
     // Where the number of resources stands in a record.
@@ -220,9 +224,9 @@ impl ProcessorNode {
         ensures { λ r. ⌜ processorNode r [] ≡ node (processor 0) (fields (body Processor) (now (bytes .entry))) ⌝ }
     {
         Self {
-            flags: field::get_u32(bytes, 0),
+            flags: field::get_u32(bytes, Self::FLAGS_AT),
             parent: Self::parent_in(bytes),
-            acpi_processor_id: field::get_u32(bytes, 8),
+            acpi_processor_id: field::get_u32(bytes, Self::ID_AT),
             resources: 0,
         }
     }
@@ -338,6 +342,9 @@ impl Resource {
     // in a processor's record
     pub const LEN: usize = 4;
 
+    // Where the field stands in a body.
+    pub const CACHE_AT: usize = 0;
+
     // Kind, cache.
     const BODY_WIDTHS: [usize; 2] = [1, 4];
 
@@ -346,7 +353,7 @@ impl Resource {
         ensures { λ r. ⌜ resourceFields r ≡ fields (body format.Resource) (now (bytes .entry)) ⌝ }
     {
         Self {
-            cache: CacheHandle(field::get_u32(bytes, 0)),
+            cache: CacheHandle(field::get_u32(bytes, Self::CACHE_AT)),
         }
     }
 
@@ -570,21 +577,21 @@ impl CacheNode {
     pub const FIELDS: usize = 8;
 
     // Where the fields stand in a body.
-    const FLAGS_AT: usize = 0;
+    pub const FLAGS_AT: usize = 0;
 
-    const NEXT_LEVEL_AT: usize = 1;
+    pub const NEXT_LEVEL_AT: usize = 1;
 
-    const SIZE_AT: usize = 5;
+    pub const SIZE_AT: usize = 5;
 
-    const SETS_AT: usize = 9;
+    pub const SETS_AT: usize = 9;
 
-    const ASSOCIATIVITY_AT: usize = 13;
+    pub const ASSOCIATIVITY_AT: usize = 13;
 
-    const ATTRIBUTES_AT: usize = 14;
+    pub const ATTRIBUTES_AT: usize = 14;
 
-    const LINE_SIZE_AT: usize = 15;
+    pub const LINE_SIZE_AT: usize = 15;
 
-    const ID_AT: usize = 17;
+    pub const ID_AT: usize = 17;
 
     // Where the next level stands in a record.
     const NEXT_LEVEL_OFFSET: usize = 8;

@@ -42,10 +42,17 @@ impl MemoryAffinity {
 
     pub const NON_VOLATILE: u32 = 4;
 
-    // All flags, and where they stand in a body.
+    // All flags.
     const FLAGS: u32 = 7;
 
-    const FLAGS_AT: usize = 20;
+    // Where the fields stand in a body.
+    pub const DOMAIN_AT: usize = 0;
+
+    pub const BASE_AT: usize = 4;
+
+    pub const LENGTH_AT: usize = 12;
+
+    pub const FLAGS_AT: usize = 20;
 
     // Kind, domain, base, length, flags.
     const BODY_WIDTHS: [usize; 5] = [1, 4, 8, 8, 1];
@@ -146,9 +153,9 @@ impl MemoryAffinity {
         ensures { λ r. ⌜ memoryNode r ≡ node memory (fields (body Memory) (now (bytes .entry))) ⌝ }
     {
         Self {
-            proximity_domain: field::get_u32(bytes, 0),
-            base_address: field::get_u64(bytes, 4),
-            length: field::get_u64(bytes, 12),
+            proximity_domain: field::get_u32(bytes, Self::DOMAIN_AT),
+            base_address: field::get_u64(bytes, Self::BASE_AT),
+            length: field::get_u64(bytes, Self::LENGTH_AT),
             flags: field::get_u8(bytes, Self::FLAGS_AT) as u32,
         }
     }
@@ -303,17 +310,27 @@ impl GenericInitiator {
 
     pub const ARCHITECTURAL: u32 = 2;
 
-    // All flags, and where they stand in a body.
+    // All flags.
     const FLAGS: u32 = 3;
 
-    const ACPI_FLAGS_AT: usize = 16;
+    // Where the fields stand in a body: in both, with an ACPI handle, with a PCI handle.
+    pub const DOMAIN_AT: usize = 0;
 
-    const PCI_FLAGS_AT: usize = 9;
+    pub const HID_AT: usize = 4;
 
-    // Where device and function stand in a body.
-    const DEVICE_AT: usize = 7;
+    pub const UID_AT: usize = 12;
 
-    const FUNCTION_AT: usize = 8;
+    pub const ACPI_FLAGS_AT: usize = 16;
+
+    pub const SEGMENT_AT: usize = 4;
+
+    pub const BUS_AT: usize = 6;
+
+    pub const DEVICE_AT: usize = 7;
+
+    pub const FUNCTION_AT: usize = 8;
+
+    pub const PCI_FLAGS_AT: usize = 9;
 
     // Kind, domain, hid, uid, flags.
     const ACPI_BODY_WIDTHS: [usize; 5] = [1, 4, 8, 4, 1];
@@ -465,9 +482,12 @@ impl GenericInitiator {
     pub fn from_acpi_body(bytes: &[u8]) -> Self
         ensures { λ r. ⌜ initiatorNode r ≡ node acpi (fields (body Acpi) (now (bytes .entry))) ⌝ }
     {
-        let handle = Handle::new_acpi(field::get_u64(bytes, 4), field::get_u32(bytes, 12));
+        let handle = Handle::new_acpi(
+            field::get_u64(bytes, Self::HID_AT),
+            field::get_u32(bytes, Self::UID_AT),
+        );
         Self {
-            proximity_domain: field::get_u32(bytes, 0),
+            proximity_domain: field::get_u32(bytes, Self::DOMAIN_AT),
             handle,
             flags: field::get_u8(bytes, Self::ACPI_FLAGS_AT) as u32,
         }
@@ -478,13 +498,13 @@ impl GenericInitiator {
         ensures { λ r. ⌜ initiatorNode r ≡ node pci (fields (body Pci) (now (bytes .entry))) ⌝ }
     {
         let handle = Handle::new_pci(
-            field::get_u16(bytes, 4),
-            field::get_u8(bytes, 6),
+            field::get_u16(bytes, Self::SEGMENT_AT),
+            field::get_u8(bytes, Self::BUS_AT),
             field::get_u8(bytes, Self::DEVICE_AT),
             field::get_u8(bytes, Self::FUNCTION_AT),
         );
         Self {
-            proximity_domain: field::get_u32(bytes, 0),
+            proximity_domain: field::get_u32(bytes, Self::DOMAIN_AT),
             handle,
             flags: field::get_u8(bytes, Self::PCI_FLAGS_AT) as u32,
         }
@@ -670,10 +690,15 @@ impl RintcAffinity {
 
     pub const ENABLED: u32 = 1;
 
-    // All flags, and where they stand in a body.
+    // All flags.
     const FLAGS: u32 = 1;
 
-    const FLAGS_AT: usize = 4;
+    // Where the fields stand in a body.
+    pub const UID_AT: usize = 0;
+
+    pub const FLAGS_AT: usize = 4;
+
+    pub const CLOCK_DOMAIN_AT: usize = 5;
 
     // Kind, uid, flags, clock domain.
     const BODY_WIDTHS: [usize; 4] = [1, 4, 1, 4];
@@ -749,9 +774,9 @@ impl RintcAffinity {
         ensures { λ r. ⌜ rintcNode r ≡ node rintc (fields (body Rintc) (now (bytes .entry))) ⌝ }
     {
         Self {
-            acpi_processor_uid: field::get_u32(bytes, 0),
+            acpi_processor_uid: field::get_u32(bytes, Self::UID_AT),
             flags: field::get_u8(bytes, Self::FLAGS_AT) as u32,
-            clock_domain: field::get_u32(bytes, 5),
+            clock_domain: field::get_u32(bytes, Self::CLOCK_DOMAIN_AT),
         }
     }
 

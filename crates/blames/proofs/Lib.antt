@@ -1,0 +1,5 @@
+pub mod Names
+pub mod Records
+pub mod Heads
+pub mod Unique
+pub mod Examples

@@ -1,0 +1,73 @@
+-- A field's name goes by its distance from the first one, by induction over the body; before that there is none. What is laid behind a
+-- name is laid only where there is a name: of a buffer that is as full as before, or has no room, nothing changes.
+use mathlib.Core.Path.{_≡_, refl, ap, sym, _∙_}
+use Prim.Native.Nat.{ℕ, suc, _+_, _-_, _≤_, _<_, min}
+use mathlib.Core.List.{List, [], _∷_, _++_}
+use mathlib.Core.Bool.{Bool, true, false}
+use native.Mathlib.Omega.{arith}
+use native.Mathlib.Nat.{add-assoc}
+use borrow.Author.Tests.{eq-eqb, ne-eqb, eqb-true, eqb-false}
+use lib.Dec.{eqb}
+use lib.ListN.{length}
+use Rattle.format.specs.Bytes.{over}
+use Rattle.format.specs.Layout.{Item, wide}
+use Rattle.laws.proofs.Bytes.{length-over, over-past}
+use Rattle.laws.proofs.Sole.{sole-pair}
+use Rattle.text.specs.Text.{laid}
+use Rattle.text.proofs.Laws.{laid-as, laid-next}
+use Rattle.blames.specs.Words.{nameAt, ofThe, words}
+
+-- ---- names
+
+eqb-add : (q a b : ℕ) → eqb (q + a) (q + b) ≡ eqb a b
+eqb-add q a b = by (eqb a b) refl
+  where
+    by : (x : Bool) → eqb a b ≡ x → eqb (q + a) (q + b) ≡ x
+    by true e = let h = eqb-true a b e in eq-eqb (q + a) (q + b) (omega arith)
+    by false e = ne-eqb (q + a) (q + b) (λ h. eqb-false a b e (omega arith))
+
+name-moved : (q p : ℕ) (is : List Item) (ns : List (List ℕ)) (place : ℕ) → nameAt (q + p) is ns (q + place) ≡ nameAt p is ns place
+unfolding nameAt
+name-moved q p [] ns place = refl
+name-moved q p (i ∷ is) [] place = refl
+name-moved q p (i ∷ is) (n ∷ ns) place = rw (eqb-add q place p, add-assoc q p (wide i), name-moved q (p + wide i) is ns place)
+
+-- of the body behind a kind byte at p
+pub name-behind : (p : ℕ) (is : List Item) (ns : List (List ℕ)) (place : ℕ) → p < place → nameAt (p + 1) is ns place ≡ nameAt 0 is ns (place - p - 1)
+name-behind p is ns place h =
+    let e : p + 1 + (place - p - 1) ≡ place = omega arith in
+    let z : p + 1 + 0 ≡ p + 1 = omega arith in
+    rw (e, z) at (name-moved (p + 1) 0 is ns (place - p - 1))
+
+pub name-before : (p : ℕ) (is : List Item) (ns : List (List ℕ)) (place : ℕ) → place < p → nameAt p is ns place ≡ []
+unfolding nameAt
+name-before p [] ns place h = refl
+name-before p (i ∷ is) [] place h = refl
+name-before p (i ∷ is) (n ∷ ns) place h = rw (ne-eqb place p (λ e. omega arith), name-before (p + wide i) is ns place (omega arith))
+
+-- ---- words
+
+module _ (out : List ℕ) (n : ℕ) (name : List ℕ) (p : ℕ) {m : ℕ} {x : List ℕ} where
+  -- the buffer is as full as before
+  pub words-none : (s : List ℕ) → _≡_ {A = ℕ × List ℕ} (m, x) (laid out n s) → m ≡ n → _≡_ {A = ℕ × List ℕ} (m, x) (laid out n (words s name p))
+  unfolding laid words
+  words-none [] e q = e
+  words-none (c ∷ cs) e q =
+      let f : m ≡ min (length out) (n + length (c ∷ cs)) = ap (λ (w : ℕ × List ℕ). w .0) e in
+      let b : x ≡ over out n (c ∷ cs) = ap (λ (w : ℕ × List ℕ). w .1) e in
+      let full : length out ≤ n = omega (arith, f) in
+      laid-as out n _ (omega (arith, f)) (rw (b, over-past out n (c ∷ cs) full, over-past out n ((c ∷ cs) ++ ofThe name p) full))
+
+  -- it is not
+  pub words-some : (s : List ℕ) → _≡_ {A = ℕ × List ℕ} (m, x) (laid out n s) → (m ≡ n → ⊥)
+      → {k : ℕ} {y : List ℕ} → _≡_ {A = ℕ × List ℕ} (k, y) (laid x m (ofThe name p)) → _≡_ {A = ℕ × List ℕ} (k, y) (laid out n (words s name p))
+  unfolding laid words
+  words-some (c ∷ cs) e q f = laid-next out n (c ∷ cs) (ofThe name p) e f
+  words-some [] e q {k} {y} f =
+      let a : m ≡ min (length out) (n + 0) = ap (λ (w : ℕ × List ℕ). w .0) e in
+      let b : x ≡ over out n [] = ap (λ (w : ℕ × List ℕ). w .1) e in
+      let low : length out ≤ n = omega (arith, a, q) in
+      let same : x ≡ out = b ∙ over-past out n [] low in
+      let g : k ≡ min (length x) (m + length (ofThe name p)) = ap (λ (w : ℕ × List ℕ). w .0) f in
+      let d : y ≡ over x m (ofThe name p) = ap (λ (w : ℕ × List ℕ). w .1) f in
+      laid-as out n [] (rw same at g ∙ omega (arith, a, q)) (d ∙ rw same (over-past out m (ofThe name p) (omega (arith, a, q))) ∙ sym (over-past out n [] low))

@@ -1,0 +1,25 @@
+-- Places of recipes and their words.
+use mathlib.Core.Path.{_≡_}
+use Prim.Native.Nat.{ℕ}
+use mathlib.Core.List.{List, [], _∷_, _++_}
+use lib.ListN.{replicate}
+use Rattle.blames.specs.Words.{text, fieldWords}
+
+-- a head with this table code, and zeros for its other fields
+abbrev headed : ℕ → List ℕ
+headed c = 1 ∷ c ∷ replicate 26 0
+
+-- a PPTT's recipe: a cache
+abbrev caches : List ℕ
+caches = headed 0 ++ (18 ∷ replicate 21 0)
+
+-- an HMAT's recipe: a proximity domain and a matrix
+abbrev matrices : List ℕ
+matrices = headed 2 ++ (48 ∷ replicate 8 0 ++ (49 ∷ replicate 13 0))
+
+pub record Examples : Type 0 where
+  pub size : fieldWords caches 34 ≡ text "size of the cache at 28"
+  pub kind-byte : fieldWords caches 28 ≡ []
+  pub inside-a-field : fieldWords caches 35 ≡ []
+  pub table-code : fieldWords (headed 7) 1 ≡ text "table code of the head at 0"
+  pub transfer-size : fieldWords matrices 40 ≡ text "transfer size of the matrix at 37"

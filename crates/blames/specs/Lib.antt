@@ -1,0 +1,3 @@
+pub mod Words
+pub mod Holders
+pub mod Examples
