@@ -17,7 +17,7 @@ use Rattle.format.specs.Out.{readOut, outWritten}
 use Rattle.format.specs.Listing.{digits, spaced}
 use Rattle.laws.proofs.Bytes.{over-fits, over-all}
 use Rattle.laws.proofs.Words.{tests-same}
-use Rattle.text.specs.Text.{hexed, listed}
+use Rattle.text.specs.Text.{text, hexed, listed}
 use Rattle.srat.specs.Srat.{handleValues}
 use Rattle.srat.specs.declared.Handle.{Handle}
 use Rattle.srat.specs.declared.Handle.the-variants as handle
@@ -38,7 +38,7 @@ use Rattle.talk.specs.declared.Number.the-variants as number
 use Rattle.talk.specs.declared.Data.the-variants as bytes
 use Rattle.talk.specs.Numbers.{stepTo, onto, numberFrom, numberIn}
 use Rattle.talk.specs.Hex.{pairs, allHex, dataIn, allAre}
-use Rattle.answers.specs.Lines.{text, keptIf, fill, success, told, toldBy, carriedOut, content}
+use Rattle.answers.specs.Lines.{keptIf, fill, success, told, toldBy, carriedOut, content}
 
 -- ---- bytes laid down in front
 

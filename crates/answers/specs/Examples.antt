@@ -1,7 +1,8 @@
 -- Lines and their answers, from those that the program calls replays: both calls that write, every refusal, every row, and lines that cannot be read.
 use mathlib.Core.Path.{_≡_}
 use Prim.Native.String.{String}
-use Rattle.answers.specs.Lines.{text, answerTo}
+use Rattle.text.specs.Text.{text}
+use Rattle.answers.specs.Lines.{answerTo}
 
 -- the program takes and lends 1,114,112 bytes at most
 abbrev Answers : String → String → Type 0

@@ -8,8 +8,8 @@ use Rattle.format.specs.Bytes.{Answer, refused, given}
 use Rattle.format.specs.Build.{build, table}
 use Rattle.format.specs.Out.{readOut, recipe}
 use Rattle.format.specs.Listing.{spaced}
-use Rattle.text.specs.Text.{hexed}
-use Rattle.answers.specs.Lines.{text, keptIf, refusal, fill, carriedOut}
+use Rattle.text.specs.Text.{text, hexed}
+use Rattle.answers.specs.Lines.{keptIf, refusal, fill, carriedOut}
 
 -- the line of an answer and of what was written, all else kept
 unfoldable pub keptOf : Answer ℕ → List ℕ → List ℕ

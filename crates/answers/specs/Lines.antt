@@ -1,8 +1,5 @@
 -- The answer to a line of text, as docs/CALLS.md has it.
 use Prim.Native.Nat.{ℕ, _-_, _^_, min}
-use Prim.Native.Char.{code}
-use Prim.Native.String.{String}
-use Prim.Native.String as string
 use mathlib.Core.List.{List, [], _∷_, _++_}
 use mathlib.Core.Bool.{Bool, true, false}
 use mathlib.Core.Option.{Option, none, some}
@@ -14,7 +11,7 @@ use Rattle.format.specs.Build.{build, built}
 use Rattle.format.specs.Out.{readOut, outWritten, every}
 use Rattle.format.specs.Read.{Reading, reading, read, readPart}
 use Rattle.format.specs.Listing.{digits, spaced, refusedWords}
-use Rattle.text.specs.Text.{hexed, listed}
+use Rattle.text.specs.Text.{text, hexed, listed}
 use Rattle.talk.specs.declared.Call.{Call}
 use Rattle.talk.specs.declared.Call.the-variants as call
 use Rattle.talk.specs.declared.Number.{Number}
@@ -26,11 +23,6 @@ use Rattle.talk.specs.Numbers.{numberIn}
 use Rattle.talk.specs.Hex.{pairs, dataIn, allAre}
 
 -- ---- the lines
-
--- the bytes of a text
-abbrev pub text : String → List ℕ
-text string.[] = []
-text (string._∷_ c s) = code c ∷ text s
 
 -- of a line that cannot be read
 abbrev pub what : List ℕ

@@ -3,7 +3,8 @@ use mathlib.Core.Path.{_≡_}
 use Prim.Native.Nat.{ℕ}
 use mathlib.Core.List.{List, [], _∷_, _++_}
 use lib.ListN.{replicate}
-use Rattle.blames.specs.Words.{text, fieldWords}
+use Rattle.text.specs.Text.{text}
+use Rattle.blames.specs.Words.{fieldWords}
 
 -- a head with this table code, and zeros for its other fields
 abbrev headed : ℕ → List ℕ

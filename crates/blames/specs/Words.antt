@@ -1,8 +1,5 @@
 -- A place of a recipe in words: the field that begins there, its record, and where that begins.
 use Prim.Native.Nat.{ℕ, _+_}
-use Prim.Native.Char.{code}
-use Prim.Native.String.{String}
-use Prim.Native.String as string
 use mathlib.Core.List.{List, [], _∷_, _++_}
 use mathlib.Core.Bool.{not}
 use mathlib.Core.Option.{Option, none, some}
@@ -14,11 +11,7 @@ use Rattle.format.specs.Table.{Table}
 use Rattle.format.specs.Kind.{Kind, Processor, Resource, Cache, Memory, Acpi, Pci, Rintc, Domain, Matrix, Initiator, Target, Cell, Side, Handle, body}
 use Rattle.format.specs.Recipe.{Calls, done, badKind, cutOff, called, cut, tableOf}
 use Rattle.format.specs.Listing.{spaced}
-
--- the bytes of a text
-abbrev pub text : String → List ℕ
-text string.[] = []
-text (string._∷_ c s) = code c ∷ text s
+use Rattle.text.specs.Text.{text}
 
 -- ---- names
 
