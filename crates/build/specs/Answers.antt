@@ -5,7 +5,7 @@ use Rattle.recipe.specs.Answers.{number}
 use Rattle.build.specs.declared.Built.{Built}
 use Rattle.build.specs.declared.Built.the-variants.{Length, NoRoom, Refused}
 
--- the length of the table, or document 01's number and place; without room the place is the length that is needed
+-- the length of the table, or a refusal's number and place; without room the place is the length that is needed
 abbrev pub shown : Built → Answer ℕ
 shown (Length n) = given n
 shown (NoRoom n) = refused 9 n

@@ -79,7 +79,7 @@ pub enum Built {
     Refused(Refusal, usize),
 }
 
-// The number of a refusal in document 01.
+// The number of a refusal.
 fn number_of(refusal: Refusal) -> u8
     ensures { λ r. ⌜ r ≡ number refusal ⌝ }
 {

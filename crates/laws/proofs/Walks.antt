@@ -18,7 +18,7 @@ use Rattle.format.specs.Read.{own, judgeHead, sizeIn, framed, framedAt, frames,
 use Rattle.format.specs.Out.{every, nodesFrom}
 use Rattle.laws.proofs.Bytes.{bytes-take, bytes-drop, part-take}
 use Rattle.laws.proofs.Lays.{both-true}
-use Rattle.laws.proofs.Links.{starts-rise, size-pos}
+use Rattle.laws.proofs.Links.{length-starts, starts-rise, few-nodes}
 use Rattle.laws.proofs.Masks.{known-row, walk-first}
 use Rattle.laws.proofs.Good.{Good, frames-first}
 use Rattle.laws.proofs.Finds.{All, then-given, or-given}
@@ -114,11 +114,6 @@ accept-parts b mask {ss} e =
 
 -- ---- the nodes read out
 
-few-starts : (t : Table) (ns : List Node) → length (starts t ns) ≤ sizes ns
-unfolding starts sizes
-few-starts t [] = omega arith
-few-starts t (n ∷ ns) = omega (arith, few-starts t ns, size-pos (n .form))
-
 -- the nodes read out of the records bs, behind the records of good nodes ns
 pub walk-found : (t : Table) (rev : ℕ) (ss : List Seen) (ns : List Node) (bs : List ℕ) (ns′ : List Node) → Good t ns → Bytes bs → front t + sizes ns + length bs ≤ limit
     → walk t rev every (starts t ns) (frames t 0 (front t + sizes ns) bs) ≡ given ss → nodesFrom (starts t ns) ns ss ≡ given ns′
@@ -139,7 +134,7 @@ walk-found t rev (s ∷ ss) ns bs ns′ g h l w e =
     let m = nodeAt (ordinalOf es) (formIn r c) c in
     let i : Bytes c = rw (← st .body) at (bytes-take n bs h) in
     let o : rowOf t rev (s .type) c ≡ some r = known-row every _ r (sym (st .row) ∙ row) .0 in
-    let F = found t p es c rev (s .type) r (starts-rise t ns) (omega (arith, few-starts t ns)) i o (st .size) (rw row at (st .fine)) in
+    let F = found t p es c rev (s .type) r (starts-rise t ns) (omega (arith, length-starts t ns, few-nodes ns)) i o (st .size) (rw row at (st .fine)) in
     let z : p + n ≡ front t + sizes (m ∷ ns) = omega (arith, F .long) in
     let R = walk-found t rev ss (m ∷ ns) (drop n bs) ns′ (F .good, g) (bytes-drop n bs h) (simp length-drop (omega arith)) (cc) (cc) in
     (R .0, cc (append-assoc (records t ns) c (drop n bs), take-append-drop n bs))
