@@ -55,6 +55,15 @@ nameAt p [] ns place = []
 nameAt p (i ∷ is) [] place = []
 nameAt p (i ∷ is) (n ∷ ns) place = pick (eqb place p) n (nameAt (p + wide i) is ns place)
 
+-- "FIELD of the RECORD", of a field that has a name
+unfoldable pub ofThe : List ℕ → List ℕ → List ℕ
+ofThe [] name = []
+ofThe (c ∷ cs) name = (c ∷ cs) ++ (text " of the " ++ name)
+
+-- of the field of a record that begins at a place; p: where the first one begins
+unfoldable pub fieldOf : Kind → ℕ → ℕ → List ℕ
+fieldOf k p place = ofThe (nameAt p (body k) (fieldNames k) place) (recordName k)
+
 -- ---- records
 
 -- the record of kind k at p, where it ends behind the place; else another
@@ -75,23 +84,19 @@ recordsOf (some t) r = cut t 0 28 (drop 28 r)
 
 -- ---- words
 
--- " of the RECORD at p"
-unfoldable pub ofThe : List ℕ → ℕ → List ℕ
-ofThe name p = text " of the " ++ (name ++ (text " at" ++ spaced p))
-
--- "FIELD of the RECORD at p"; nothing of a field without a name
-unfoldable pub words : List ℕ → List ℕ → ℕ → List ℕ
-words [] name p = []
-words (c ∷ cs) name p = (c ∷ cs) ++ ofThe name p
+-- "FIELD at p", of a field that has a name
+unfoldable pub words : List ℕ → ℕ → List ℕ
+words [] p = []
+words (c ∷ cs) p = (c ∷ cs) ++ (text " at" ++ spaced p)
 
 -- for the field that begins at a place of the head; only the table code, its first, can be bad
 unfoldable pub headWords : ℕ → List ℕ
-headWords place = words (pick (eqb place 1) (text "table code") []) (text "head") 0
+headWords place = words (ofThe (pick (eqb place 1) (text "table code") []) (text "head")) 0
 
 -- for the field that begins at a place of a record, its kind byte at p
 unfoldable pub recordWords : ℕ → Option (Kind × ℕ) → List ℕ
 recordWords place none = []
-recordWords place (some (k, p)) = words (nameAt (p + 1) (body k) (fieldNames k) place) (recordName k) p
+recordWords place (some (k, p)) = words (fieldOf k (p + 1) place) p
 
 -- for the field that begins at a place of a recipe; nothing where none does, and of bytes that do not begin with a head
 unfoldable pub fieldWords : List ℕ → ℕ → List ℕ

@@ -1,16 +1,14 @@
 // A place of a recipe in words, for people: the field that begins there, its record, and where that begins.
 // Where the fields stand in a body is asked of the node types; what they are called stands here.
 ghost use mathlib.Core.Path.{_≡_};
-ghost use Prim.Native.Nat.{_+_};
 ghost use lib.ListN.{drop};
 ghost use mathlib.Core.Option.{some};
-ghost use Rattle.format.specs.Kind.{body};
 ghost use Rattle.format.specs.Kind as format;
 ghost use Rattle.format.specs.Recipe.{cut};
 ghost use Rattle.header.specs.Header.{meant};
 ghost use Rattle.recipe.specs.Kinds.{meantKind};
 ghost use Rattle.text.specs.Text.{laid};
-ghost use Rattle.blames.specs.Words.{recordName, fieldNames, nameAt, holder, headWords, recordWords, fieldWords};
+ghost use Rattle.blames.specs.Words.{fieldOf, holder, headWords, recordWords, fieldWords};
 ghost use Rattle.blames.specs.Holders.{heldBy};
 use header::Table;
 use header::TableHeader;
@@ -29,162 +27,179 @@ use srat::GenericInitiator;
 use srat::MemoryAffinity;
 use srat::RintcAffinity;
 
-// ---- the names of fields, by their places in a body; nothing where none begins
+// ---- the fields of each kind, by their places in a body; nothing where none begins
 
 fn processor(at: usize, out: &mut [u8], n: usize) -> usize
-    ensures { λ r. ⌜ (r, now (out .exit)) ≡ laid (now (out .entry)) n (nameAt 0 (body format.Processor) (fieldNames format.Processor) at) ⌝ }
+    ensures { λ r. ⌜ (r, now (out .exit)) ≡ laid (now (out .entry)) n (fieldOf format.Processor 0 at) ⌝ }
 {
     match at {
-        ProcessorNode::FLAGS_AT => text::bytes(out, n, b"flags"),
-        ProcessorNode::PARENT_AT => text::bytes(out, n, b"parent"),
-        ProcessorNode::ID_AT => text::bytes(out, n, b"processor ID"),
+        ProcessorNode::FLAGS_AT => text::bytes(out, n, b"flags of the processor"),
+        ProcessorNode::PARENT_AT => text::bytes(out, n, b"parent of the processor"),
+        ProcessorNode::ID_AT => text::bytes(out, n, b"processor ID of the processor"),
         _ => text::bytes(out, n, b""),
     }
 }
 
 fn resource(at: usize, out: &mut [u8], n: usize) -> usize
-    ensures { λ r. ⌜ (r, now (out .exit)) ≡ laid (now (out .entry)) n (nameAt 0 (body format.Resource) (fieldNames format.Resource) at) ⌝ }
+    ensures { λ r. ⌜ (r, now (out .exit)) ≡ laid (now (out .entry)) n (fieldOf format.Resource 0 at) ⌝ }
 {
     match at {
-        Resource::CACHE_AT => text::bytes(out, n, b"cache"),
+        Resource::CACHE_AT => text::bytes(out, n, b"cache of the resource"),
         _ => text::bytes(out, n, b""),
     }
 }
 
 fn cache(at: usize, out: &mut [u8], n: usize) -> usize
-    ensures { λ r. ⌜ (r, now (out .exit)) ≡ laid (now (out .entry)) n (nameAt 0 (body format.Cache) (fieldNames format.Cache) at) ⌝ }
+    ensures { λ r. ⌜ (r, now (out .exit)) ≡ laid (now (out .entry)) n (fieldOf format.Cache 0 at) ⌝ }
 {
     match at {
-        CacheNode::FLAGS_AT => text::bytes(out, n, b"flags"),
-        CacheNode::NEXT_LEVEL_AT => text::bytes(out, n, b"next level"),
-        CacheNode::SIZE_AT => text::bytes(out, n, b"size"),
-        CacheNode::SETS_AT => text::bytes(out, n, b"sets"),
-        CacheNode::ASSOCIATIVITY_AT => text::bytes(out, n, b"associativity"),
-        CacheNode::ATTRIBUTES_AT => text::bytes(out, n, b"attributes"),
-        CacheNode::LINE_SIZE_AT => text::bytes(out, n, b"line size"),
-        CacheNode::ID_AT => text::bytes(out, n, b"ID"),
+        CacheNode::FLAGS_AT => text::bytes(out, n, b"flags of the cache"),
+        CacheNode::NEXT_LEVEL_AT => text::bytes(out, n, b"next level of the cache"),
+        CacheNode::SIZE_AT => text::bytes(out, n, b"size of the cache"),
+        CacheNode::SETS_AT => text::bytes(out, n, b"sets of the cache"),
+        CacheNode::ASSOCIATIVITY_AT => text::bytes(out, n, b"associativity of the cache"),
+        CacheNode::ATTRIBUTES_AT => text::bytes(out, n, b"attributes of the cache"),
+        CacheNode::LINE_SIZE_AT => text::bytes(out, n, b"line size of the cache"),
+        CacheNode::ID_AT => text::bytes(out, n, b"ID of the cache"),
         _ => text::bytes(out, n, b""),
     }
 }
 
 fn memory(at: usize, out: &mut [u8], n: usize) -> usize
-    ensures { λ r. ⌜ (r, now (out .exit)) ≡ laid (now (out .entry)) n (nameAt 0 (body format.Memory) (fieldNames format.Memory) at) ⌝ }
+    ensures { λ r. ⌜ (r, now (out .exit)) ≡ laid (now (out .entry)) n (fieldOf format.Memory 0 at) ⌝ }
 {
     match at {
-        MemoryAffinity::DOMAIN_AT => text::bytes(out, n, b"domain"),
-        MemoryAffinity::BASE_AT => text::bytes(out, n, b"base"),
-        MemoryAffinity::LENGTH_AT => text::bytes(out, n, b"length"),
-        MemoryAffinity::FLAGS_AT => text::bytes(out, n, b"flags"),
+        MemoryAffinity::DOMAIN_AT => text::bytes(out, n, b"domain of the memory affinity"),
+        MemoryAffinity::BASE_AT => text::bytes(out, n, b"base of the memory affinity"),
+        MemoryAffinity::LENGTH_AT => text::bytes(out, n, b"length of the memory affinity"),
+        MemoryAffinity::FLAGS_AT => text::bytes(out, n, b"flags of the memory affinity"),
         _ => text::bytes(out, n, b""),
     }
 }
 
 fn acpi(at: usize, out: &mut [u8], n: usize) -> usize
-    ensures { λ r. ⌜ (r, now (out .exit)) ≡ laid (now (out .entry)) n (nameAt 0 (body format.Acpi) (fieldNames format.Acpi) at) ⌝ }
+    ensures { λ r. ⌜ (r, now (out .exit)) ≡ laid (now (out .entry)) n (fieldOf format.Acpi 0 at) ⌝ }
 {
     match at {
-        GenericInitiator::DOMAIN_AT => text::bytes(out, n, b"domain"),
-        GenericInitiator::HID_AT => text::bytes(out, n, b"hid"),
-        GenericInitiator::UID_AT => text::bytes(out, n, b"uid"),
-        GenericInitiator::ACPI_FLAGS_AT => text::bytes(out, n, b"flags"),
+        GenericInitiator::DOMAIN_AT => text::bytes(out, n, b"domain of the generic initiator"),
+        GenericInitiator::HID_AT => text::bytes(out, n, b"hid of the generic initiator"),
+        GenericInitiator::UID_AT => text::bytes(out, n, b"uid of the generic initiator"),
+        GenericInitiator::ACPI_FLAGS_AT => text::bytes(out, n, b"flags of the generic initiator"),
         _ => text::bytes(out, n, b""),
     }
 }
 
 fn pci(at: usize, out: &mut [u8], n: usize) -> usize
-    ensures { λ r. ⌜ (r, now (out .exit)) ≡ laid (now (out .entry)) n (nameAt 0 (body format.Pci) (fieldNames format.Pci) at) ⌝ }
+    ensures { λ r. ⌜ (r, now (out .exit)) ≡ laid (now (out .entry)) n (fieldOf format.Pci 0 at) ⌝ }
 {
     match at {
-        GenericInitiator::DOMAIN_AT => text::bytes(out, n, b"domain"),
-        GenericInitiator::SEGMENT_AT => text::bytes(out, n, b"segment"),
-        GenericInitiator::BUS_AT => text::bytes(out, n, b"bus"),
-        GenericInitiator::DEVICE_AT => text::bytes(out, n, b"device"),
-        GenericInitiator::FUNCTION_AT => text::bytes(out, n, b"function"),
-        GenericInitiator::PCI_FLAGS_AT => text::bytes(out, n, b"flags"),
+        GenericInitiator::DOMAIN_AT => text::bytes(out, n, b"domain of the generic initiator"),
+        GenericInitiator::SEGMENT_AT => text::bytes(out, n, b"segment of the generic initiator"),
+        GenericInitiator::BUS_AT => text::bytes(out, n, b"bus of the generic initiator"),
+        GenericInitiator::DEVICE_AT => text::bytes(out, n, b"device of the generic initiator"),
+        GenericInitiator::FUNCTION_AT => text::bytes(out, n, b"function of the generic initiator"),
+        GenericInitiator::PCI_FLAGS_AT => text::bytes(out, n, b"flags of the generic initiator"),
         _ => text::bytes(out, n, b""),
     }
 }
 
 fn rintc(at: usize, out: &mut [u8], n: usize) -> usize
-    ensures { λ r. ⌜ (r, now (out .exit)) ≡ laid (now (out .entry)) n (nameAt 0 (body format.Rintc) (fieldNames format.Rintc) at) ⌝ }
+    ensures { λ r. ⌜ (r, now (out .exit)) ≡ laid (now (out .entry)) n (fieldOf format.Rintc 0 at) ⌝ }
 {
     match at {
-        RintcAffinity::UID_AT => text::bytes(out, n, b"uid"),
-        RintcAffinity::FLAGS_AT => text::bytes(out, n, b"flags"),
-        RintcAffinity::CLOCK_DOMAIN_AT => text::bytes(out, n, b"clock domain"),
+        RintcAffinity::UID_AT => text::bytes(out, n, b"uid of the RINTC affinity"),
+        RintcAffinity::FLAGS_AT => text::bytes(out, n, b"flags of the RINTC affinity"),
+        RintcAffinity::CLOCK_DOMAIN_AT => text::bytes(
+            out,
+            n,
+            b"clock domain of the RINTC affinity",
+        ),
         _ => text::bytes(out, n, b""),
     }
 }
 
 fn domain(at: usize, out: &mut [u8], n: usize) -> usize
-    ensures { λ r. ⌜ (r, now (out .exit)) ≡ laid (now (out .entry)) n (nameAt 0 (body format.Domain) (fieldNames format.Domain) at) ⌝ }
+    ensures { λ r. ⌜ (r, now (out .exit)) ≡ laid (now (out .entry)) n (fieldOf format.Domain 0 at) ⌝ }
 {
     match at {
-        MemoryProximityDomain::INITIATOR_AT => text::bytes(out, n, b"initiator"),
-        MemoryProximityDomain::MEMORY_AT => text::bytes(out, n, b"memory"),
+        MemoryProximityDomain::INITIATOR_AT => text::bytes(
+            out,
+            n,
+            b"initiator of the proximity domain",
+        ),
+        MemoryProximityDomain::MEMORY_AT => text::bytes(out, n, b"memory of the proximity domain"),
         _ => text::bytes(out, n, b""),
     }
 }
 
 fn matrix(at: usize, out: &mut [u8], n: usize) -> usize
-    ensures { λ r. ⌜ (r, now (out .exit)) ≡ laid (now (out .entry)) n (nameAt 0 (body format.Matrix) (fieldNames format.Matrix) at) ⌝ }
+    ensures { λ r. ⌜ (r, now (out .exit)) ≡ laid (now (out .entry)) n (fieldOf format.Matrix 0 at) ⌝ }
 {
     match at {
-        SystemLocality::FLAGS_AT => text::bytes(out, n, b"flags"),
-        SystemLocality::DATA_TYPE_AT => text::bytes(out, n, b"data type"),
-        SystemLocality::TRANSFER_SIZE_AT => text::bytes(out, n, b"transfer size"),
-        SystemLocality::BASE_UNIT_AT => text::bytes(out, n, b"base unit"),
-        SystemLocality::INITIATORS_AT => text::bytes(out, n, b"initiators"),
-        SystemLocality::TARGETS_AT => text::bytes(out, n, b"targets"),
+        SystemLocality::FLAGS_AT => text::bytes(out, n, b"flags of the matrix"),
+        SystemLocality::DATA_TYPE_AT => text::bytes(out, n, b"data type of the matrix"),
+        SystemLocality::TRANSFER_SIZE_AT => text::bytes(out, n, b"transfer size of the matrix"),
+        SystemLocality::BASE_UNIT_AT => text::bytes(out, n, b"base unit of the matrix"),
+        SystemLocality::INITIATORS_AT => text::bytes(out, n, b"initiators of the matrix"),
+        SystemLocality::TARGETS_AT => text::bytes(out, n, b"targets of the matrix"),
         _ => text::bytes(out, n, b""),
     }
 }
 
-// Of an initiator's value and of a target's.
-fn value(at: usize, out: &mut [u8], n: usize) -> usize
-    ensures { λ r. ⌜ (r, now (out .exit)) ≡ laid (now (out .entry)) n (nameAt 0 (body format.Initiator) (fieldNames format.Initiator) at) ⌝ }
+fn initiator(at: usize, out: &mut [u8], n: usize) -> usize
+    ensures { λ r. ⌜ (r, now (out .exit)) ≡ laid (now (out .entry)) n (fieldOf format.Initiator 0 at) ⌝ }
 {
     match at {
-        Value::INDEX_AT => text::bytes(out, n, b"index"),
-        Value::VALUE_AT => text::bytes(out, n, b"value"),
+        Value::INDEX_AT => text::bytes(out, n, b"index of the initiator value"),
+        Value::VALUE_AT => text::bytes(out, n, b"value of the initiator value"),
+        _ => text::bytes(out, n, b""),
+    }
+}
+
+fn target(at: usize, out: &mut [u8], n: usize) -> usize
+    ensures { λ r. ⌜ (r, now (out .exit)) ≡ laid (now (out .entry)) n (fieldOf format.Target 0 at) ⌝ }
+{
+    match at {
+        Value::INDEX_AT => text::bytes(out, n, b"index of the target value"),
+        Value::VALUE_AT => text::bytes(out, n, b"value of the target value"),
         _ => text::bytes(out, n, b""),
     }
 }
 
 fn cell(at: usize, out: &mut [u8], n: usize) -> usize
-    ensures { λ r. ⌜ (r, now (out .exit)) ≡ laid (now (out .entry)) n (nameAt 0 (body format.Cell) (fieldNames format.Cell) at) ⌝ }
+    ensures { λ r. ⌜ (r, now (out .exit)) ≡ laid (now (out .entry)) n (fieldOf format.Cell 0 at) ⌝ }
 {
     match at {
-        Cell::INITIATOR_AT => text::bytes(out, n, b"initiator"),
-        Cell::TARGET_AT => text::bytes(out, n, b"target"),
-        Cell::VALUE_AT => text::bytes(out, n, b"value"),
+        Cell::INITIATOR_AT => text::bytes(out, n, b"initiator of the cell"),
+        Cell::TARGET_AT => text::bytes(out, n, b"target of the cell"),
+        Cell::VALUE_AT => text::bytes(out, n, b"value of the cell"),
         _ => text::bytes(out, n, b""),
     }
 }
 
 fn side(at: usize, out: &mut [u8], n: usize) -> usize
-    ensures { λ r. ⌜ (r, now (out .exit)) ≡ laid (now (out .entry)) n (nameAt 0 (body format.Side) (fieldNames format.Side) at) ⌝ }
+    ensures { λ r. ⌜ (r, now (out .exit)) ≡ laid (now (out .entry)) n (fieldOf format.Side 0 at) ⌝ }
 {
     match at {
-        MemorySideCache::DOMAIN_AT => text::bytes(out, n, b"domain"),
-        MemorySideCache::SIZE_AT => text::bytes(out, n, b"size"),
-        MemorySideCache::ATTRIBUTES_AT => text::bytes(out, n, b"attributes"),
+        MemorySideCache::DOMAIN_AT => text::bytes(out, n, b"domain of the side cache"),
+        MemorySideCache::SIZE_AT => text::bytes(out, n, b"size of the side cache"),
+        MemorySideCache::ATTRIBUTES_AT => text::bytes(out, n, b"attributes of the side cache"),
         _ => text::bytes(out, n, b""),
     }
 }
 
 fn handle(at: usize, out: &mut [u8], n: usize) -> usize
-    ensures { λ r. ⌜ (r, now (out .exit)) ≡ laid (now (out .entry)) n (nameAt 0 (body format.Handle) (fieldNames format.Handle) at) ⌝ }
+    ensures { λ r. ⌜ (r, now (out .exit)) ≡ laid (now (out .entry)) n (fieldOf format.Handle 0 at) ⌝ }
 {
     match at {
-        SmbiosHandle::HANDLE_AT => text::bytes(out, n, b"handle"),
+        SmbiosHandle::HANDLE_AT => text::bytes(out, n, b"handle of the SMBIOS handle"),
         _ => text::bytes(out, n, b""),
     }
 }
 
-// Of a body of this kind.
-fn field_name(kind: Kind, at: usize, out: &mut [u8], n: usize) -> usize
-    ensures { λ r. ⌜ (r, now (out .exit)) ≡ laid (now (out .entry)) n (nameAt 0 (body (meantKind kind)) (fieldNames (meantKind kind)) at) ⌝ }
+// The field of a body of this kind.
+fn field_of(kind: Kind, at: usize, out: &mut [u8], n: usize) -> usize
+    ensures { λ r. ⌜ (r, now (out .exit)) ≡ laid (now (out .entry)) n (fieldOf (meantKind kind) 0 at) ⌝ }
 {
     match kind {
         Kind::Processor => processor(at, out, n),
@@ -196,8 +211,8 @@ fn field_name(kind: Kind, at: usize, out: &mut [u8], n: usize) -> usize
         Kind::Rintc => rintc(at, out, n),
         Kind::Domain => domain(at, out, n),
         Kind::Matrix => matrix(at, out, n),
-        Kind::Initiator => value(at, out, n),
-        Kind::Target => value(at, out, n),
+        Kind::Initiator => initiator(at, out, n),
+        Kind::Target => target(at, out, n),
         Kind::Cell => cell(at, out, n),
         Kind::Side => side(at, out, n),
         Kind::Handle => handle(at, out, n),
@@ -206,28 +221,6 @@ fn field_name(kind: Kind, at: usize, out: &mut [u8], n: usize) -> usize
 
 // ---- records
 
-// The name of a record.
-fn record_name(kind: Kind, out: &mut [u8], n: usize) -> usize
-    ensures { λ r. ⌜ (r, now (out .exit)) ≡ laid (now (out .entry)) n (recordName (meantKind kind)) ⌝ }
-{
-    match kind {
-        Kind::Processor => text::bytes(out, n, b"processor"),
-        Kind::Resource => text::bytes(out, n, b"resource"),
-        Kind::Cache => text::bytes(out, n, b"cache"),
-        Kind::Memory => text::bytes(out, n, b"memory affinity"),
-        Kind::Acpi => text::bytes(out, n, b"generic initiator"),
-        Kind::Pci => text::bytes(out, n, b"generic initiator"),
-        Kind::Rintc => text::bytes(out, n, b"RINTC affinity"),
-        Kind::Domain => text::bytes(out, n, b"proximity domain"),
-        Kind::Matrix => text::bytes(out, n, b"matrix"),
-        Kind::Initiator => text::bytes(out, n, b"initiator value"),
-        Kind::Target => text::bytes(out, n, b"target value"),
-        Kind::Cell => text::bytes(out, n, b"cell"),
-        Kind::Side => text::bytes(out, n, b"side cache"),
-        Kind::Handle => text::bytes(out, n, b"SMBIOS handle"),
-    }
-}
-
 // The words for the field that begins at a place of the record whose kind byte stands at `at`.
 fn in_record(kind: Kind, at: usize, place: usize, out: &mut [u8], n: usize) -> usize
     ensures { λ r. ⌜ (r, now (out .exit)) ≡ laid (now (out .entry)) n (recordWords place (some (meantKind kind, at))) ⌝ }
@@ -235,13 +228,11 @@ fn in_record(kind: Kind, at: usize, place: usize, out: &mut [u8], n: usize) -> u
     if place <= at {
         return text::bytes(out, n, b"");
     }
-    let mut m = field_name(kind, place - at - 1, out, n);
-    // no name is empty: there is none, or no room
+    let mut m = field_of(kind, place - at - 1, out, n);
+    // a field has a name: there is none, or no room
     if m == n {
         return m;
     }
-    m = text::bytes(out, m, b" of the ");
-    m = record_name(kind, out, m);
     m = text::bytes(out, m, b" at");
     text::spaced(out, m, at as u64)
 }

@@ -1,22 +1,22 @@
--- `value` meets its contract: the fields of a value begin where the widths before them end.
+-- `initiator` meets its contract: the fields of an initiator's value begin where the widths before them end.
 use mathlib.Core.Path.{_∙_}
 use borrow.Author.Needs.{needs}
 use borrow.Author.Tests.{ne-eqb}
 use Rattle.format.specs.Kind.{body}
-use Rattle.blames.specs.Words.{fieldNames, nameAt}
-use Rattle.blames.proofs.value.Statement.{statement}
-use Rattle.blames.proofs.value.Tie as tie
+use Rattle.blames.specs.Words.{recordName, fieldNames, nameAt, ofThe, fieldOf}
+use Rattle.blames.proofs.initiator.Statement.{statement}
+use Rattle.blames.proofs.initiator.Tie as tie
 
 -- no field
 other : tie.Need-returns-3
-unfolding nameAt fieldNames body
+unfolding fieldOf ofThe nameAt fieldNames recordName body
 other c =
     let o = c .before .before .before .before .before .match .rest in
     c .before .before .bytes3 .ensures ∙ rw (ne-eqb _ 0 (o .0 .1), ne-eqb _ 1 (o .1))
 
-pub value-spec : {M : Type 1} → statement M
-unfolding nameAt fieldNames body
-value-spec =
+pub initiator-spec : {M : Type 1} → statement M
+unfolding fieldOf ofThe nameAt fieldNames recordName body
+initiator-spec =
     tie.close
     (tie.spec
     (λ c. search needs)

@@ -1,14 +1,11 @@
--- `field_name` meets its contract: each kind has its fields, an initiator's value and a target's the same.
+-- `field_of` meets its contract: each kind has its fields.
 use mathlib.Core.Path.{_∙_}
 use borrow.Author.Needs.{needs}
-use Rattle.format.specs.Kind.{body}
-use Rattle.blames.specs.Words.{fieldNames, nameAt}
-use Rattle.blames.proofs.field_name.Statement.{statement}
-use Rattle.blames.proofs.field_name.Tie as tie
+use Rattle.blames.proofs.field_of.Statement.{statement}
+use Rattle.blames.proofs.field_of.Tie as tie
 
-pub field-name-spec : {M : Type 1} → statement M
-unfolding nameAt fieldNames body
-field-name-spec =
+pub field-of-spec : {M : Type 1} → statement M
+field-of-spec =
     tie.close
     (tie.spec
     (λ c. search needs)
@@ -58,9 +55,9 @@ field-name-spec =
     (λ c. search needs)
     (λ c. c .before .before .matrix .ensures ∙ rw (c .before .before .before .before .enum-told9 .given .1))
     (λ c. search needs)
-    (λ c. c .before .before .value .ensures ∙ rw (c .before .before .before .before .enum-told10 .given .1))
+    (λ c. c .before .before .initiator .ensures ∙ rw (c .before .before .before .before .enum-told10 .given .1))
     (λ c. search needs)
-    (λ c. c .before .before .value2 .ensures ∙ rw (c .before .before .before .before .enum-told11 .given .1))
+    (λ c. c .before .before .target .ensures ∙ rw (c .before .before .before .before .enum-told11 .given .1))
     (λ c. search needs)
     (λ c. c .before .before .cell .ensures ∙ rw (c .before .before .before .before .enum-told12 .given .1))
     (λ c. search needs)
