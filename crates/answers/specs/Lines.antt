@@ -1,6 +1,6 @@
 -- The answer to a line of text, as docs/CALLS.md has it.
 use Prim.Native.Nat.{ℕ, _-_, _^_, min}
-use mathlib.Core.List.{List, [], _∷_, _++_}
+use mathlib.Core.List.{List, _++_}
 use mathlib.Core.Bool.{Bool, true, false}
 use mathlib.Core.Option.{Option, none, some}
 use lib.Dec.{eqb}

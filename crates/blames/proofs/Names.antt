@@ -1,7 +1,7 @@
--- A field's name goes by its distance from the first one, by induction over the body; before that there is none. What is laid behind a
--- name is laid only where there is a name: of a buffer that is as full as before, or has no room, nothing changes.
+-- A field's name goes by its distance from the first one, by induction over the body; before that there is none. The place is laid
+-- behind a field only where there is one: a buffer that is as full as before held no field or has no room, and then nothing changes.
 use mathlib.Core.Path.{_≡_, refl, ap, sym, _∙_}
-use Prim.Native.Nat.{ℕ, suc, _+_, _-_, _≤_, _<_, min}
+use Prim.Native.Nat.{ℕ, _+_, _-_, _≤_, _<_, min}
 use mathlib.Core.List.{List, [], _∷_, _++_}
 use mathlib.Core.Bool.{Bool, true, false}
 use native.Mathlib.Omega.{arith}
@@ -13,8 +13,7 @@ use Rattle.format.specs.Bytes.{over}
 use Rattle.format.specs.Layout.{Item, wide}
 use Rattle.format.specs.Kind.{Kind, body}
 use Rattle.format.specs.Listing.{spaced}
-use Rattle.laws.proofs.Bytes.{length-over, over-past}
-use Rattle.laws.proofs.Sole.{sole-pair}
+use Rattle.laws.proofs.Bytes.{over-past}
 use Rattle.text.specs.Text.{text, laid}
 use Rattle.text.proofs.Laws.{laid-as, laid-next}
 use Rattle.blames.specs.Words.{recordName, fieldNames, nameAt, ofThe, fieldOf, words}

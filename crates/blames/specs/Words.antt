@@ -15,7 +15,7 @@ use Rattle.text.specs.Text.{text}
 
 -- ---- names
 
--- of a record
+-- what a record is called
 unfoldable pub recordName : Kind → List ℕ
 recordName Processor = text "processor"
 recordName Resource = text "resource"
@@ -32,7 +32,7 @@ recordName Cell = text "cell"
 recordName Side = text "side cache"
 recordName Handle = text "SMBIOS handle"
 
--- of the fields of a body, in its order
+-- what the fields of a body are called, in its order
 unfoldable pub fieldNames : Kind → List (List ℕ)
 fieldNames Processor = text "flags" ∷ text "parent" ∷ text "processor ID" ∷ []
 fieldNames Resource = text "cache" ∷ []
@@ -55,12 +55,12 @@ nameAt p [] ns place = []
 nameAt p (i ∷ is) [] place = []
 nameAt p (i ∷ is) (n ∷ ns) place = pick (eqb place p) n (nameAt (p + wide i) is ns place)
 
--- "FIELD of the RECORD", of a field that has a name
+-- "FIELD of the RECORD"; nothing of a field without a name
 unfoldable pub ofThe : List ℕ → List ℕ → List ℕ
 ofThe [] name = []
 ofThe (c ∷ cs) name = (c ∷ cs) ++ (text " of the " ++ name)
 
--- of the field of a record that begins at a place; p: where the first one begins
+-- the same of the field of a record that begins at a place; p: where the first one begins
 unfoldable pub fieldOf : Kind → ℕ → ℕ → List ℕ
 fieldOf k p place = ofThe (nameAt p (body k) (fieldNames k) place) (recordName k)
 
@@ -84,16 +84,16 @@ recordsOf (some t) r = cut t 0 28 (drop 28 r)
 
 -- ---- words
 
--- "FIELD at p", of a field that has a name
+-- the place of the record behind its field; nothing of no field
 unfoldable pub words : List ℕ → ℕ → List ℕ
 words [] p = []
 words (c ∷ cs) p = (c ∷ cs) ++ (text " at" ++ spaced p)
 
--- for the field that begins at a place of the head; only the table code, its first, can be bad
+-- for the field that begins at a place of the head: only the table code can be bad
 unfoldable pub headWords : ℕ → List ℕ
 headWords place = words (ofThe (pick (eqb place 1) (text "table code") []) (text "head")) 0
 
--- for the field that begins at a place of a record, its kind byte at p
+-- for the field that begins at a place of a record of kind k at p
 unfoldable pub recordWords : ℕ → Option (Kind × ℕ) → List ℕ
 recordWords place none = []
 recordWords place (some (k, p)) = words (fieldOf k (p + 1) place) p

@@ -197,7 +197,7 @@ fn handle(at: usize, out: &mut [u8], n: usize) -> usize
     }
 }
 
-// The field of a body of this kind.
+// The field of a body of this kind that begins at a place.
 fn field_of(kind: Kind, at: usize, out: &mut [u8], n: usize) -> usize
     ensures { λ r. ⌜ (r, now (out .exit)) ≡ laid (now (out .entry)) n (fieldOf (meantKind kind) 0 at) ⌝ }
 {
@@ -219,7 +219,7 @@ fn field_of(kind: Kind, at: usize, out: &mut [u8], n: usize) -> usize
     }
 }
 
-// ---- records
+// ---- words
 
 // The words for the field that begins at a place of the record whose kind byte stands at `at`.
 fn in_record(kind: Kind, at: usize, place: usize, out: &mut [u8], n: usize) -> usize
@@ -229,7 +229,7 @@ fn in_record(kind: Kind, at: usize, place: usize, out: &mut [u8], n: usize) -> u
         return text::bytes(out, n, b"");
     }
     let mut m = field_of(kind, place - at - 1, out, n);
-    // a field has a name: there is none, or no room
+    // nothing was laid: no field begins there, or there is no room
     if m == n {
         return m;
     }
