@@ -1,22 +1,19 @@
 -- The record that holds a place, going from record to record: one more is cut off, or the cut ends there.
 use mathlib.Core.Path.{_≡_, refl}
-use Prim.Native.Nat.{ℕ, suc, _+_, _≤_, _<_}
+use Prim.Native.Nat.{ℕ, _+_, _≤_, _<_}
 use mathlib.Core.List.{List}
 use mathlib.Core.Bool.{Bool, true, false}
 use mathlib.Core.Option.{none, some}
 use native.Mathlib.Omega.{arith}
-use native.Mathlib.Numerals.{add-one}
 use borrow.Author.Tests.{ltb-true}
 use lib.Dec.{ltb}
 use lib.ListN.{length, drop, drop-of-length-le, length-drop}
-use lib.Seq.{drop-drop}
 use Rattle.format.specs.Bytes.{pick, at}
 use Rattle.format.specs.Layout.{width, fields}
 use Rattle.format.specs.Table.{Table}
 use Rattle.format.specs.Kind.{Kind, kindOf, body}
-use Rattle.format.specs.Recipe.{Calls, cutOff, called, cutAs, skip, cut}
-use Rattle.laws.proofs.Bytes.{drop-turn}
-use Rattle.laws.proofs.Calls.{cut-skip}
+use Rattle.format.specs.Recipe.{Calls, cutOff, called, cutAs, cut}
+use Rattle.laws.proofs.Calls.{cut-at}
 use Rattle.blames.specs.Words.{ifHolds, holder}
 
 module _ (t : Table) (r : List ℕ) (p place : ℕ) where
@@ -24,23 +21,15 @@ module _ (t : Table) (r : List ℕ) (p place : ℕ) where
   unfolding cut holder
   holder-end l = rw (drop-of-length-le r l)
 
-  -- what follows the record at p
-  cut-at : p < length r → cut t 0 p (drop p r)
-      ≡ cutAs (kindOf t (at r p)) (drop (p + 1) r) p (cut t 0 (p + 1 + skip (kindOf t (at r p))) (drop (p + 1 + skip (kindOf t (at r p))) r))
-  unfolding cut
-  cut-at l =
-      let n = skip (kindOf t (at r p)) in
-      rw (drop-turn r p l, cut-skip t n (suc p) (drop (p + 1) r), drop-drop n (p + 1) r, ← add-one p)
-
   pub holder-unknown : p < length r → kindOf t (at r p) ≡ none → holder place (cut t 0 p (drop p r)) ≡ none
   unfolding cutAs holder
-  holder-unknown l e = rw (cut-at l, e)
+  holder-unknown l e = rw (cut-at t r p l, e)
 
   -- behind a record that is cut there is nothing
   pub holder-next : p < length r → (k : Kind) → kindOf t (at r p) ≡ some k
       → holder place (cut t 0 p (drop p r)) ≡ ifHolds place p k (holder place (cut t 0 (p + 1 + width (body k)) (drop (p + 1 + width (body k)) r)))
   unfolding cutAs cut holder
-  holder-next l k e = rw (cut-at l, e) (by (ltb (length (drop (p + 1) r)) (width (body k))) refl)
+  holder-next l k e = rw (cut-at t r p l, e) (by (ltb (length (drop (p + 1) r)) (width (body k))) refl)
     where
       rest : Calls
       rest = cut t 0 (p + 1 + width (body k)) (drop (p + 1 + width (body k)) r)

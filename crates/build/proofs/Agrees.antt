@@ -1,6 +1,6 @@
 -- The references that a walk finds are those of the format, so a record is the same: item by item, and form by form.
 use mathlib.Core.Path.{_≡_, refl}
-use Prim.Native.Nat.{ℕ, suc, _+_, _≤_}
+use Prim.Native.Nat.{ℕ, _+_, _≤_}
 use mathlib.Core.List.{List, [], _∷_, _++_}
 use mathlib.Core.Bool.{Bool, true, false}
 use native.Mathlib.Omega.{arith}
@@ -10,25 +10,13 @@ use borrow.Author.Tests.{eqb-true}
 use Rattle.format.specs.Bytes.{pick, at, over}
 use Rattle.format.specs.Layout.{Item, fix, fld, two, to, orNone, arity, number, numberWith, isGood, layWith, refsGood}
 use Rattle.format.specs.Table.{pptt, limit}
-use Rattle.format.specs.Node.{Node, Entry, sizes, starts, atOrdinal, placeOf}
+use Rattle.format.specs.Node.{Node, sizes, starts, atOrdinal, placeOf}
 use Rattle.format.specs.Build.{records}
-use Rattle.laws.proofs.Finds.{never}
 use Rattle.laws.proofs.Lays.{both-true}
-use Rattle.laws.proofs.Links.{length-starts}
+use Rattle.laws.proofs.Links.{named-within, length-starts}
 use Rattle.laws.proofs.Good.{Good}
 use Rattle.build.specs.Write.{placeIn}
 use Rattle.build.proofs.Walks.{place-among}
-
--- ---- a good reference is an ordinal of a node
-
-below-at : (m k : ℕ) (x y z : Bool) → eqb (suc m) k ≡ x → (z ≡ true → k ≤ m) → pick x y z ≡ true → k ≤ suc m
-below-at m k true y z q ih h = let d : suc m ≡ k = eqb-true (suc m) k q in omega arith
-below-at m k false y z q ih h = let i = ih h in omega arith
-
-pub named-below : (es : List Entry) (k t : ℕ) → atOrdinal es k t ≡ true → k ≤ length es
-unfolding atOrdinal
-named-below [] k t h = never h
-named-below (e ∷ es) k t h = below-at (length es) k (eqb (suc (length es)) k) (eqb (e .type) t) (atOrdinal es k t) refl (named-below es k t) h
 
 -- ---- two ways to write references that agree on the good ones
 
@@ -55,7 +43,7 @@ module _ (f g : ℕ → ℕ) (ok : ℕ → ℕ → Bool) (none : f 0 ≡ g 0) (s
 
 module _ (xs fs ys : List ℕ) (ns : List Node) (l : length fs ≡ 36) (room : length (fs ++ (records pptt ns ++ ys)) ≤ length xs) (good : Good pptt ns) (short : 36 + sizes ns ≤ limit) where
   pub named-place : (v t : ℕ) → atOrdinal (starts pptt ns) v t ≡ true → placeIn (over xs 0 (fs ++ (records pptt ns ++ ys))) v ≡ placeOf (starts pptt ns) v
-  named-place v t h = place-among xs fs ys ns l room good short v (rw (length-starts pptt ns) at (named-below (starts pptt ns) v t h))
+  named-place v t h = place-among xs fs ys ns l room good short v (rw (length-starts pptt ns) at (named-within (starts pptt ns) v t h .1))
 
   pub pptt-agrees : (is : List Item) (vs : List ℕ) → refsGood (atOrdinal (starts pptt ns)) is vs ≡ true
       → layWith (placeIn (over xs 0 (fs ++ (records pptt ns ++ ys)))) is vs ≡ layWith (placeOf (starts pptt ns)) is vs

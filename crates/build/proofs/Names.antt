@@ -1,25 +1,16 @@
 -- Only a PPTT has references, and a record leaves the nodes before the newest, or those before the newest before: kind by kind, and so the marks stay right.
 use mathlib.Core.Path.{_≡_, refl}
-use Prim.Native.Nat.{ℕ, _≤_}
+use Prim.Native.Nat.{ℕ}
 use mathlib.Core.List.{List}
-use mathlib.Core.Bool.{Bool, true, false}
-use native.Mathlib.Omega.{arith}
-use lib.ListN.{length, drop}
-use lib.Dec.{eqb}
-use borrow.Author.Tests.{eqb-true}
-use Rattle.format.specs.Bytes.{pick, at}
-use Rattle.format.specs.Layout.{fields, refsGood}
-use Rattle.format.specs.Table.{Table, pptt}
-use Rattle.format.specs.Node.{Node, starts, atOrdinal}
-use Rattle.format.specs.Kind.{Kind, Processor, Resource, Cache, Memory, Acpi, Pci, Rintc, Domain, Matrix, Initiator, Target, Cell, Side, Handle, body}
+use mathlib.Core.Bool.{Bool, true}
+use lib.ListN.{drop}
+use Rattle.format.specs.Table.{pptt}
+use Rattle.format.specs.Node.{Node}
+use Rattle.format.specs.Kind.{Kind, Processor, Resource, Cache, Memory, Acpi, Pci, Rintc, Domain, Matrix, Initiator, Target, Cell, Side, Handle}
 use Rattle.format.specs.Recipe.{resource, handle, setting, step, added}
-use Rattle.laws.proofs.Lays.{both-true}
-use Rattle.laws.proofs.Fits.{second}
 use Rattle.laws.proofs.Finds.{never}
-use Rattle.laws.proofs.Links.{length-starts}
-use Rattle.laws.proofs.Grows.{View, seesProcessor, seesMatrix, seesSide, seesOther, view, Passed, kindHome}
+use Rattle.laws.proofs.Grows.{View, seesProcessor, seesMatrix, seesSide, seesOther, view, kindHome}
 use Rattle.recipe.specs.Machine.{refers}
-use Rattle.build.proofs.Agrees.{named-below}
 
 -- only a PPTT's records have a reference
 pub names-pptt : (k : Kind) (bs : List ℕ) → (refers k bs ≡ 0 → ⊥) → kindHome k ≡ pptt

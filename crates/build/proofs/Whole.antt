@@ -7,16 +7,16 @@ use mathlib.Core.Option.{Option, none, some}
 use native.Mathlib.Omega.{arith}
 use lib.ListN.{length, drop, getD, length-drop}
 use lib.Seq.{drop-cons, drop-drop}
-use lib.Dec.{eqb, ltb}
+use lib.Dec.{ltb}
 use borrow.Author.Tests.{ltb-false}
-use Rattle.format.specs.Bytes.{pick, at, part, Answer, refused, given, firstOf, andThen, orRefused}
+use Rattle.format.specs.Bytes.{pick, at, part, Answer, refused, given}
 use Rattle.format.specs.Layout.{width, fields}
 use Rattle.format.specs.Table.{Head, headOf}
 use Rattle.format.specs.Node.{Node, sizes}
 use Rattle.format.specs.Kind.{Kind, Processor, Resource, Cache, Memory, Acpi, Pci, Rintc, Domain, Matrix, Initiator, Target, Cell, Side, Handle, kindOf, body}
-use Rattle.format.specs.Recipe.{Calls, done, badKind, cutOff, called, cutAs, skip, cut, resource, handle, setting, step, added, fault, faultAt, Meaning, means, since, run, tableOf, headed, meaning}
+use Rattle.format.specs.Recipe.{Calls, done, badKind, cutOff, called, cutAs, skip, cut, resource, handle, setting, step, added, fault, faultAt, Meaning, means, since, run, headed, meaning}
 use Rattle.format.specs.Build.{table}
-use Rattle.laws.proofs.Finds.{never, none-first, then-given, unless-given}
+use Rattle.laws.proofs.Finds.{never, then-given, unless-given}
 use Rattle.laws.proofs.Grows.{View, seesProcessor, seesMatrix, seesSide, seesOther, view, passed}
 use Rattle.laws.proofs.Calls.{cut-skip}
 use Rattle.laws.proofs.Builds.{headed-given}

@@ -708,7 +708,7 @@ impl Value {
         ensures { λ r. ⌜ r ≡ badIn Initiator (ltb (self .idx) count ∷ []) ⌝ }
     {
         if count <= self.idx as u32 {
-            return 1;
+            return 1 + Self::INDEX_AT;
         }
         0
     }
@@ -771,7 +771,7 @@ impl Cell {
         ensures { λ r. ⌜ r ≡ badIn format.Cell (ltb (self .«initiator_idx») initiators ∷ ltb (self .«target_idx») targets ∷ []) ⌝ }
     {
         if initiators <= self.initiator_idx as u32 {
-            return 1;
+            return 1 + Self::INITIATOR_AT;
         }
         if targets <= self.target_idx as u32 {
             return 1 + Self::TARGET_AT;

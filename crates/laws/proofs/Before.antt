@@ -8,14 +8,14 @@ use native.Mathlib.Nat.{add-zero}
 use native.Mathlib.Omega.{arith}
 use lib.ListN.{length, drop}
 use lib.Dec.{eqb, ltb}
-use borrow.Author.Tests.{eqb-true, eqb-false, ne-eqb}
-use Rattle.format.specs.Bytes.{pick, all, firstOf, Answer, refused, given, andThen, orRefused, unless, at, part}
+use borrow.Author.Tests.{eqb-false}
+use Rattle.format.specs.Bytes.{pick, all, firstOf, Answer, given, andThen, orRefused, unless, at, part}
 use Rattle.format.specs.Layout.{refsGood}
 use Rattle.format.specs.Table.{Table, front, limit, Head, headOf}
 use Rattle.format.specs.Node.{Node, sizes, starts, isOrdinal, atOrdinal}
 use Rattle.format.specs.Kind.{Kind, body}
 use Rattle.format.specs.Field.{badIn}
-use Rattle.format.specs.Recipe.{Calls, done, badKind, cutOff, called, cut, step, added, fault, faultAt, Meaning, since, run, tableOf, headed, meaning}
+use Rattle.format.specs.Recipe.{Calls, done, badKind, cutOff, called, cut, step, added, fault, faultAt, since, run, tableOf, headed, meaning}
 use Rattle.laws.specs.Before.{faultBefore, runBefore, headedBefore, meaningBefore, Moves, good, same, field, kind, Stays}
 use Rattle.laws.proofs.Finds.{never}
 use Rattle.laws.proofs.Fields.{all-bad}

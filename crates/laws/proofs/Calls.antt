@@ -6,8 +6,9 @@ use mathlib.Core.Bool.{true}
 use mathlib.Core.Option.{some}
 use native.Mathlib.Omega.{arith}
 use native.Mathlib.Nat.{add-zero}
+use native.Mathlib.Numerals.{add-one}
 use lib.ListN.{length, take, drop, replicate, length-append}
-use lib.Seq.{drop-at}
+use lib.Seq.{drop-at, drop-drop}
 use lib.Dec.{leb, ltb}
 use borrow.Author.Tests.{le-ltb, lt-leb, ltb-true, leb-true}
 use Rattle.format.specs.Bytes.{both, at}
@@ -16,9 +17,10 @@ use Rattle.format.specs.Table.{Table, pptt, srat, hmat, front, limit, Head}
 use Rattle.format.specs.Form.{Form, processor, cache, memory, acpi, pci, rintc, domain, side, size, layout, ranges}
 use Rattle.format.specs.Node.{Node, node, Entry, sizes, starts, atOrdinal}
 use Rattle.format.specs.Kind.{Kind, Processor, Resource, Cache, Memory, Acpi, Pci, Rintc, Domain, Matrix, Initiator, Target, Cell, Side, Handle, kindNumber, kindOf, body}
-use Rattle.format.specs.Recipe.{cutAs, cut, called, resource, handle, step, added, since, run}
+use Rattle.format.specs.Recipe.{cutAs, skip, cut, called, resource, handle, step, added, since, run}
 use Rattle.format.specs.Normal.{call, each}
 use Rattle.laws.proofs.Finds.{All}
+use Rattle.laws.proofs.Bytes.{drop-turn}
 use Rattle.laws.proofs.Lays.{Fit, both-true, length-lay, fields-lay}
 use Rattle.laws.proofs.Fits.{second, fourth, fld-fit, refit}
 use Rattle.laws.proofs.Good.{GoodNode}
@@ -48,6 +50,14 @@ cut-skip t (suc k) p [] = refl
 cut-skip t (suc k) p (b ∷ bs) =
     let e : suc p + k ≡ p + suc k = omega arith in
     cut-skip t k (suc p) bs ∙ rw e
+
+-- what follows the record at p
+pub cut-at : (t : Table) (r : List ℕ) (p : ℕ) → p < length r → cut t 0 p (drop p r)
+    ≡ cutAs (kindOf t (at r p)) (drop (p + 1) r) p (cut t 0 (p + 1 + skip (kindOf t (at r p))) (drop (p + 1 + skip (kindOf t (at r p))) r))
+unfolding cut
+cut-at t r p h =
+    let n = skip (kindOf t (at r p)) in
+    rw (drop-turn r p h, cut-skip t n (suc p) (drop (p + 1) r), drop-drop n (p + 1) r, ← add-one p)
 
 cut-call : (k : Kind) (vs rest : List ℕ) (p : ℕ) → Fit (body k) vs
     → cut (kindHome k) 0 p (call k vs ++ rest) ≡ called p k vs (cut (kindHome k) 0 (suc p + width (body k)) rest)

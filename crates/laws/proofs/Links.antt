@@ -5,9 +5,9 @@ use mathlib.Core.List.{List, [], _∷_, _++_}
 use mathlib.Core.Bool.{Bool, true, false}
 use native.Mathlib.Omega.{arith}
 use lib.ListN.{length, take, drop, take-append-drop}
-use lib.Dec.{eqb, leb}
-use borrow.Author.Tests.{eq-eqb, ne-eqb, eqb-true, le-leb, leb-true}
-use Rattle.format.specs.Bytes.{pick, both}
+use lib.Dec.{eqb}
+use borrow.Author.Tests.{eq-eqb, ne-eqb, eqb-true, le-leb}
+use Rattle.format.specs.Bytes.{pick}
 use Rattle.format.specs.Layout.{Item, fix, fld, two, to, orNone, arity, arities, number, isGood, refsGood}
 use Rattle.format.specs.Table.{Table, pptt, srat, hmat, front}
 use Rattle.format.specs.Form.{Form, processor, cache, memory, acpi, pci, rintc, domain, matrix, side, size}
@@ -97,23 +97,19 @@ ordinal-zero b (e ∷ es) r =
 
 -- ---- what names a record of some type names a record
 
-within : (n k t : ℕ) → isOrdinal n k t ≡ true → (1 ≤ k) × (k ≤ n)
-unfolding isOrdinal
-within n k t h = let p = both-true (leb 1 k) (leb k n) h in (leb-true 1 k (p .0), leb-true k n (p .1))
-
-is-within : (n k t : ℕ) → 1 ≤ k → k ≤ n → isOrdinal n k t ≡ true
-unfolding isOrdinal
-is-within n k t l m = rw (le-leb 1 k l, le-leb k n m)
+pub named-within : (es : List Entry) (k t : ℕ) → atOrdinal es k t ≡ true → (1 ≤ k) × (k ≤ length es)
+unfolding atOrdinal
+named-within [] k t h = let z : _≡_ {A = ℕ} 0 1 = cc in absurd (omega arith)
+named-within (e ∷ es) k t h = by (eqb (suc (length es)) k) refl h (named-within es k t)
+  where
+    by : (x : Bool) → eqb (suc (length es)) k ≡ x → pick x (eqb (e .type) t) (atOrdinal es k t) ≡ true → (atOrdinal es k t ≡ true → (1 ≤ k) × (k ≤ length es))
+        → (1 ≤ k) × (k ≤ suc (length es))
+    by true q h ih = let e = eqb-true (suc (length es)) k q in (omega arith, omega arith)
+    by false q h ih = let l = ih h in (l .0, omega (arith, l .1))
 
 is-ordinal : (es : List Entry) (k t : ℕ) → atOrdinal es k t ≡ true → isOrdinal (length es) k t ≡ true
-unfolding atOrdinal
-is-ordinal [] k t h = let z : _≡_ {A = ℕ} 0 1 = cc in absurd (omega arith)
-is-ordinal (e ∷ es) k t h = by (eqb (suc (length es)) k) refl h (is-ordinal es k t)
-  where
-    by : (x : Bool) → eqb (suc (length es)) k ≡ x → pick x (eqb (e .type) t) (atOrdinal es k t) ≡ true → (atOrdinal es k t ≡ true → isOrdinal (length es) k t ≡ true)
-        → isOrdinal (suc (length es)) k t ≡ true
-    by true q h ih = is-within (suc (length es)) k t (omega (arith, eqb-true (suc (length es)) k q)) (omega (arith, eqb-true (suc (length es)) k q))
-    by false q h ih = let l = within (length es) k t (ih h) in is-within (suc (length es)) k t (l .0) (omega (arith, l .1))
+unfolding isOrdinal
+is-ordinal es k t h = let l = named-within es k t h in rw (le-leb 1 k (l .0), le-leb k (length es) (l .1))
 
 module _ (ok ok′ : ℕ → ℕ → Bool) (weaker : (v t : ℕ) → ok v t ≡ true → ok′ v t ≡ true) where
   item-weaker : (i : Item) (x : ℕ) → isGood ok i x ≡ true → isGood ok′ i x ≡ true

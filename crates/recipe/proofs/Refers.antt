@@ -14,7 +14,7 @@ use Rattle.format.specs.Table.{Table}
 use Rattle.format.specs.Form.{typeOf}
 use Rattle.format.specs.Node.{Node, starts, isOrdinal, atOrdinal}
 use Rattle.recipe.specs.declared.State.{State}
-use Rattle.recipe.specs.Machine.{stateOf, typesOf, bitAt, ofType, Typed}
+use Rattle.recipe.specs.Machine.{stateOf, typesOf, ofType, Typed}
 use Rattle.laws.proofs.Links.{length-starts}
 use Rattle.recipe.proofs.Types.{read-type}
 

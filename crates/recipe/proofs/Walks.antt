@@ -1,13 +1,11 @@
 -- The records of a recipe from a place on: one more is cut off and judged, or the cut ends there. What the pass keeps stays true.
 use mathlib.Core.Path.{_≡_, refl, sym, _∙_}
-use Prim.Native.Nat.{ℕ, suc, _+_, _*_, _/_, _%_, _^_, _≤_, _<_}
+use Prim.Native.Nat.{ℕ, _+_, _*_, _/_, _%_, _^_, _≤_, _<_}
 use mathlib.Core.List.{List, [], _∷_}
 use mathlib.Core.Bool.{Bool, true, false}
 use mathlib.Core.Option.{none, some}
 use native.Mathlib.Omega.{arith}
-use native.Mathlib.Numerals.{add-one}
 use lib.ListN.{length, drop, set, drop-of-length-le, length-drop, length-set}
-use lib.Seq.{drop-drop}
 use lib.Dec.{eqb, leb, ltb}
 use borrow.Author.Tests.{le-ltb, lt-ltb, ne-eqb, eqb-true, leb-true}
 use Rattle.format.specs.Bytes.{pick, at, Answer, refused, given, unless, value, part}
@@ -16,15 +14,15 @@ use Rattle.format.specs.Table.{Table, pptt, srat, hmat, code, front, limit, Hea
 use Rattle.format.specs.Form.{Form, processor, cache, memory, acpi, pci, rintc, domain, matrix, side, typeOf, size}
 use Rattle.format.specs.Node.{Node, sizes}
 use Rattle.format.specs.Kind.{Kind, Processor, Resource, Cache, Cell, kindNumber, kindOf, body}
-use Rattle.format.specs.Recipe.{Newest, cutAs, skip, cut, resource, step, added, fault, faultAt, since, run, tableOf, headed, meaning}
-use Rattle.laws.proofs.Bytes.{drop-turn, value-byte}
+use Rattle.format.specs.Recipe.{Newest, cutAs, cut, resource, step, added, fault, faultAt, since, run, tableOf, headed, meaning}
+use Rattle.laws.proofs.Bytes.{value-byte}
 use Rattle.laws.proofs.Finds.{never, unless-given}
 use Rattle.laws.proofs.Lays.{both-true}
 use Rattle.laws.proofs.Fields.{fault-within}
 use Rattle.laws.proofs.Offsets.{fields-at}
 use Rattle.laws.proofs.Grows.{View, seesProcessor, seesMatrix, seesSide, seesOther, view, passed}
 use Rattle.laws.proofs.Builds.{kind-home}
-use Rattle.laws.proofs.Calls.{cut-skip}
+use Rattle.laws.proofs.Calls.{cut-at}
 use Rattle.laws.proofs.Settings.{table-back}
 use Rattle.laws.proofs.Links.{few-nodes}
 use Rattle.header.specs.declared.Table.the-variants.{Hmat}
@@ -36,20 +34,10 @@ use Rattle.recipe.specs.declared.State.{State}
 use Rattle.recipe.specs.declared.Step.{Step}
 use Rattle.recipe.specs.declared.Step.the-variants.{Next, Refused, BadField}
 use Rattle.recipe.specs.Answers.{number, outlined}
-use Rattle.recipe.specs.Machine.{stateOf, Sound, typesOf, Bits, Typed, Clear, noted, stepped, turn, TurnsWith, whole, Stands}
+use Rattle.recipe.specs.Machine.{stateOf, Sound, typesOf, Bits, Typed, Clear, noted, stepped, TurnsWith, whole, Stands}
 use Rattle.recipe.proofs.Types.{bits-parts, clear-next, typed-zero, typed-one}
 use Rattle.recipe.proofs.Refers.{length-types}
 use Rattle.recipe.proofs.Steps.{set-turn}
-
--- ---- one record more
-
--- what follows the record at p
-cut-at : (t : Table) (r : List ℕ) (p : ℕ) → p < length r → cut t 0 p (drop p r)
-    ≡ cutAs (kindOf t (at r p)) (drop (p + 1) r) p (cut t 0 (p + 1 + skip (kindOf t (at r p))) (drop (p + 1 + skip (kindOf t (at r p))) r))
-unfolding cut
-cut-at t r p h =
-    let n = skip (kindOf t (at r p)) in
-    rw (drop-turn r p h, cut-skip t n (suc p) (drop (p + 1) r), drop-drop n (p + 1) r, ← add-one p)
 
 -- ---- the types of the nodes with one record more
 

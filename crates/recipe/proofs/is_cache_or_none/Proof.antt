@@ -1,7 +1,6 @@
 -- `is_cache_or_none` meets its contract: what is not 0 has to name a cache.
 use mathlib.Core.Path.{_∙_}
 use native.Mathlib.Omega.{arith}
-use borrow.Author.Needs.{needs}
 use borrow.Author.Tests.{eq-eqb, ne-eqb}
 use Rattle.recipe.proofs.is_cache_or_none.Statement.{statement}
 use Rattle.recipe.proofs.is_cache_or_none.Tie as tie

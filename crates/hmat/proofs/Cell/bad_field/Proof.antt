@@ -12,6 +12,7 @@ bad-field-spec =
     tie.close
     (tie.spec
     (λ c. search needs)
+    (λ c. search needs)
     (λ c. rw (le-ltb _ _ (c .if1 .taken)))
     (λ c. search needs)
     (λ c. search needs)
