@@ -39,9 +39,22 @@ def side(handles=0):
     return struct.pack("<BIQI", 53, 1, 1 << 30, 0) + b"\x36\x01\x00" * handles, 32 + 2 * handles
 
 
+def bridge():
+    return struct.pack("<BIBQ", 64, 1, 1, 1 << 32), 32
+
+
+def window(code, ways):
+    target = struct.pack("<BI", 66, 7)
+    return struct.pack("<BQQBBBBH", 65, 1 << 32, 1 << 28, code, 0, 0, 4, 0) + target * ways, 36 + 4 * ways
+
+
+def maths(maps=0):
+    return struct.pack("<BB", 67, 0) + struct.pack("<BQ", 68, 5) * maps, 8 + 8 * maps
+
+
 def recipe(code, first, more, limit, last=b""):
     """The first pieces, then more(k) for k = 0, 1, .. as long as the table keeps within the limit, then the bytes of the last record."""
-    out, length = [head(code)], [36, 48, 40][code]
+    out, length = [head(code)], [36, 48, 40, 36][code]
     for piece, n in first:
         out.append(piece)
         length += n
@@ -111,6 +124,10 @@ def srat(kind):
 
 def hmat(piece):
     return lambda limit: recipe(2, [], same(piece), limit)
+
+
+def cedt(piece):
+    return lambda limit: recipe(3, [], same(piece), limit)
 
 
 def settings(i, t, run):
@@ -187,6 +204,14 @@ RECIPES = {
     "side caches of one handle": hmat(side(1)),
     "side caches of 65,535 handles": hmat(side(65535)),
     "one side cache of 65,535 handles, at the end one too many": refused(lambda limit: head(2) + side(65535)[0], b"\x36\x01\x00"),
+    "a CEDT's head alone": lambda limit: head(3),
+    "bridges": cedt(bridge()),
+    "windows of one way": cedt(window(0, 1)),
+    "windows of 16 ways": cedt(window(4, 16)),
+    "windows of 16 ways, at the end one without targets": lambda limit: cedt(window(4, 16))(limit - 100) + window(4, 0)[0],
+    "maths without maps": cedt(maths()),
+    "maths of 255 maps": cedt(maths(255)),
+    "maths of 255 maps, at the end one too many": lambda limit: cedt(maths(255))(limit - 8) + maths(1)[0][2:],
 }
 
 # ---- tables
@@ -194,17 +219,17 @@ RECIPES = {
 
 def table(sign, records, revision=None, sum_off=0):
     """The table of some records, with its sum; off by so much."""
-    code = [b"PPTT", b"SRAT", b"HMAT"].index(sign)
-    front = [b"", struct.pack("<IQ", 1, 0), struct.pack("<I", 0)][code]
+    code = [b"PPTT", b"SRAT", b"HMAT", b"CEDT"].index(sign)
+    front = [b"", struct.pack("<IQ", 1, 0), struct.pack("<I", 0), b""][code]
     out = bytearray(sign + bytes(32) + front + records)
-    struct.pack_into("<IB", out, 4, len(out), [3, 3, 1][code] if revision is None else revision)
+    struct.pack_into("<IB", out, 4, len(out), [3, 3, 1, 1][code] if revision is None else revision)
     out[9] = (sum_off - sum(out)) % 256
     return bytes(out)
 
 
 def repeated(sign, record, **more):
     def make(limit):
-        left = limit - {b"PPTT": 36, b"SRAT": 48, b"HMAT": 40}[sign]
+        left = limit - {b"PPTT": 36, b"SRAT": 48, b"HMAT": 40, b"CEDT": 36}[sign]
         return table(sign, record * (left // len(record)), **more)
     return make
 
@@ -215,6 +240,10 @@ def unknown(ty, length=2):
 
 def unknown_hmat(ty, length=8):
     return struct.pack("<HHI", ty, 0, length) + bytes(length - 8)
+
+
+def unknown_cedt(ty):
+    return struct.pack("<BBH", ty, 0, 4)
 
 
 def processor_at(parent=0, caches=()):
@@ -290,6 +319,15 @@ def side_at(handles=0):
     return struct.pack("<HHIIIQIHH", 2, 0, 32 + 2 * handles, 1, 0, 1 << 30, 0, 0, handles) + b"\x01\x00" * handles
 
 
+def window_at(code, ways):
+    return struct.pack("<BBHIQQBBHIHH", 1, 0, 36 + 4 * ways, 0, 1 << 32, 1 << 28, code, 0, 0, 0, 4, 0) + struct.pack("<I", 7) * ways
+
+
+def maths_at(maps=0):
+    return struct.pack("<BBHHBB", 2, 0, 8 + 8 * maps, 0, 0, maps) + struct.pack("<Q", 5) * maps
+
+
+BRIDGE = struct.pack("<BBHIIIQQ", 0, 0, 32, 1, 1, 0, 1 << 32, 0x10000)
 RINTC = struct.pack("<BBHIII", 7, 16, 0, 1, 1, 2)
 MEMORY = struct.pack("<BBIHQQIIQ", 1, 40, 1, 0, 1 << 32, 1 << 32, 0, 7, 0)
 PCI = struct.pack("<BBBBIHBB12xII", 5, 32, 0, 1, 1, 2, 3, 255, 3, 0)
@@ -352,4 +390,12 @@ TABLES = {
     "HMAT of side caches": repeated(b"HMAT", side_at()),
     "HMAT of side caches of 65,535 handles": repeated(b"HMAT", side_at(65535)),
     "HMAT of 8-byte records, at the end a cut one": lambda limit: table(b"HMAT", unknown_hmat(9) * ((limit - 48) // 8) + b"\x00" * 7),
+    "a CEDT without records": lambda limit: table(b"CEDT", b""),
+    "CEDT of 4-byte records": repeated(b"CEDT", unknown_cedt(3)),
+    "CEDT of 4-byte records of a window's type": repeated(b"CEDT", unknown_cedt(1)),
+    "CEDT of bridges": repeated(b"CEDT", BRIDGE),
+    "CEDT of windows of one way": repeated(b"CEDT", window_at(0, 1)),
+    "CEDT of windows of 16 ways": repeated(b"CEDT", window_at(4, 16)),
+    "CEDT of maths without maps": repeated(b"CEDT", maths_at()),
+    "CEDT of maths of 255 maps": repeated(b"CEDT", maths_at(255)),
 }

@@ -19,7 +19,8 @@ extern "C" {
 #endif
 
 /* What a call refuses; beside each what place is then. A reference is refused by 6 if it names no node before its own, 0 where none is
- * allowed too, and by 10 if it names an earlier node of the other kind; 10 is looked for between 6 and 7. */
+ * allowed too, and by 10 if it names an earlier node of the other kind; 10 is looked for between 6 and 7. A window with fewer targets
+ * than ways is refused by 11 where another record comes, before that record's own faults, or where the recipe ends, before 9. */
 enum acpi_refusal {
     ACPI_NO_HEAD = 1,    /* 0 */
     ACPI_BAD_KIND = 2,   /* 2 to 8 and 10, but for 5: where the faulty record begins in the recipe */
@@ -31,6 +32,7 @@ enum acpi_refusal {
     ACPI_TOO_LONG = 8,
     ACPI_NO_ROOM = 9,    /* the length of the table */
     ACPI_WRONG_KIND = 10,
+    ACPI_INCOMPLETE = 11, /* where the window begins in the recipe */
 
     ACPI_SHORT = 20,     /* 20 to 24: 0 */
     ACPI_BAD_SIGN = 21,
@@ -56,6 +58,9 @@ enum acpi_row {
     ACPI_ROW_DOMAIN = 5,
     ACPI_ROW_MATRIX = 6,
     ACPI_ROW_SIDE = 7,
+    ACPI_ROW_BRIDGE = 8,
+    ACPI_ROW_WINDOW = 9,
+    ACPI_ROW_MATHS = 10,
     ACPI_ROW_UNKNOWN = 255
 };
 
@@ -71,6 +76,9 @@ enum acpi_row {
  *   domain      initiator, memory
  *   matrix      flags, data type, transfer size, initiators I, targets T, base unit
  *   side cache  domain, size, attributes, number of SMBIOS handles
+ *   bridge      uid, version, base
+ *   window      base, size, ways code, arithmetic, granularity, restrictions, QTG; its part has the targets, four bytes each
+ *   maths       granularity, number of maps
  *   unknown     none
  */
 enum acpi_answer {
@@ -87,10 +95,10 @@ enum acpi_answer {
 /* The longest table. */
 #define ACPI_LIMIT 1048576u
 
-/* Builds the table of a recipe into out. Refuses 1 to 10; place gets the table's length. */
+/* Builds the table of a recipe into out. Refuses 1 to 11; place gets the table's length. */
 uint32_t acpi_build(const uint8_t *recipe, size_t recipe_len, uint8_t *out, size_t out_len, size_t *place);
 
-/* Judges a recipe: what acpi_build would answer with room for the table. Refuses 1 to 8 and 10; place gets the table's length. */
+/* Judges a recipe: what acpi_build would answer with room for the table. Refuses 1 to 8, 10 and 11; place gets the table's length. */
 uint32_t acpi_check(const uint8_t *recipe, size_t recipe_len, size_t *place);
 
 /* Writes the recipe of a table, in its normal form, into out. Refuses 20 to 27 and 29 to 31; place gets the recipe's length. */

@@ -1,9 +1,11 @@
 """Seeded generators of recipes and tables, good and damaged."""
+import itertools
 import random
 from model import *
 
 CREATOR = b'RVAT' + bytes([0, 0, 0, 1])  # the creator fields of the crate acpi_tables
-KINDS = {0: (16, 17, 18), 1: (32, 33, 34, 35), 2: (48, 49, 50, 51, 52, 53, 54)}
+KINDS = {0: (16, 17, 18), 1: (32, 33, 34, 35), 2: (48, 49, 50, 51, 52, 53, 54), 3: (64, 65, 66, 67, 68)}
+TABLES = [0, 0, 1, 2, 2, 3, 3]  # how often each is drawn
 
 
 def num(R, k):
@@ -82,8 +84,57 @@ def g_side(R):
     return bytes([53]) + by(num(R, 4), 4) + by(num(R, 8), 8) + by(a, 4)
 
 
+def g_bridge(R):
+    return bytes([64]) + by(num(R, 4), 4) + bytes([R.randrange(2)]) + by(num(R, 8), 8)
+
+
+def g_window(R, code, restrictions=None):
+    restrictions = R.randrange(32) if restrictions is None else restrictions
+    return (bytes([65]) + by(num(R, 8), 8) + by(num(R, 8), 8) + bytes([code, R.randrange(2), R.randrange(7), restrictions])
+            + by(num(R, 2), 2))
+
+
+def g_target(R):
+    return bytes([66]) + by(num(R, 4), 4)
+
+
+def g_targets(R, n):
+    return b''.join(g_target(R) for _ in range(n))
+
+
+def g_maths(R):
+    return bytes([67, R.randrange(7)])
+
+
+def g_map(R):
+    return bytes([68]) + by(num(R, 8), 8)
+
+
+def g_cedt(R, k):
+    return {64: g_bridge, 65: lambda R: g_window(R, R.choice(list(WAYS))), 66: g_target, 67: g_maths, 68: g_map}[k](R)
+
+
+def cedt_records(R, size):
+    """the records of a CEDT, all good; every second time without what the crate writes otherwise, bridges and type 3 memory"""
+    out, as_crate = [], R.random() < .5
+    for _ in range(size):
+        k = R.choice([65, 67] if as_crate else [64, 65, 65, 67])
+        if k == 64:
+            out.append(g_bridge(R))
+        elif k == 65:
+            code = R.choice([0, 0, 0, 1, 1, 2, 3, 4, 8, 8, 9, 10])
+            out.append(g_window(R, code, R.randrange(32) & ~2 if as_crate else None))
+            out += [g_target(R) for _ in range(WAYS[code])]
+        else:
+            out.append(g_maths(R))
+            out += [g_map(R) for _ in range(R.choice([0, 0, 1, 2, 3, 6]))]
+    return out
+
+
 def good_records(R, t, size):
     """a list of records (after the head), all good; about `size` nodes"""
+    if t == 3:
+        return cedt_records(R, size)
     out = []
     if t == 0:
         kinds = []
@@ -136,7 +187,7 @@ def node_size(R):
 
 
 def good_recipe(R, t=None, size=None):
-    t = R.randrange(3) if t is None else t
+    t = R.randrange(4) if t is None else t
     return head(R, t) + b''.join(good_records(R, t, node_size(R) if size is None else size))
 
 
@@ -192,21 +243,46 @@ def small_hmats():
             yield side + b''.join(bytes([54]) + by(4096 + h, 2) for h in range(n))
 
 
+def small_window(code, *fields):
+    """a window of arithmetic, granularity and restrictions, 0 where not given, with its targets"""
+    window = bytes([65]) + by(1 << 32, 8) + by(1 << 28, 8) + bytes([code, *fields]).ljust(4, b'\0') + by(5, 2)
+    return window + b''.join(bytes([66]) + by(7 + i, 4) for i in range(WAYS[code]))
+
+
+def small_cedts():
+    """every CEDT of up to four records, the windows of which have one way or two; every value of the small fields; many maps"""
+    bridges = [bytes([64]) + by(9, 4) + bytes([version]) + by(1 << 40, 8) for version in (0, 1)]
+    windows = [small_window(code)[:23] for code in (0, 1)]
+    maths, xor_map = bytes([67, 1]), bytes([68]) + by(0x2121, 8)
+    for n in range(5):
+        yield from map(b''.join, itertools.product([bridges[0], *windows, bytes([66]) + by(7, 4), maths, xor_map], repeat=n))
+    yield bridges[1]
+    for fields in itertools.product((0, 1), range(7), range(32)):
+        yield small_window(0, *fields)
+    for code in WAYS:
+        yield small_window(code) + small_window(code, 1, 6, 0x1D)
+    for granularity in range(7):
+        for n in (0, 1, 2, 254, 255, 256):
+            yield bytes([67, granularity]) + xor_map * n
+
+
 def small():
     """every small recipe, with the crate's creator fields"""
-    for t, records in ((0, small_pptts(4, 0)), (0, small_caches()), (1, small_srats()), (2, small_hmats())):
+    for t, records in ((0, small_pptts(4, 0)), (0, small_caches()), (1, small_srats()), (2, small_hmats()), (3, small_cedts())):
         for r in records:
             yield bytes([1, t]) + b'OEMOEMTABLETAB' + by(1, 4) + CREATOR + r
 
 
 def largest():
-    """recipes at the limits, with the crate's creator fields: tables of nearly 1,048,576 bytes, 58 resources, 65,535 handles"""
+    """recipes at the limits, with the crate's creator fields: tables of nearly 1,048,576 bytes, 58 resources, 65,535 handles; of windows
+    just as many bytes, and as many full maths as the program calls takes in a recipe"""
     cache, memory = bytes([18, 0]) + bytes(20), bytes([32]) + by(5, 4) + by(6, 8) + by(7, 8) + bytes([3])
     matrix = bytes([49, 0, 0, 0]) + by(1, 8) + bytes([255, 255])
     cells = b''.join(bytes([52, c // 255, c % 255]) + by(c, 2) for c in range(255 * 255))
     for t, records in ((0, (bytes([16]) + by(1, 4) + by(0, 4) + by(2, 4)) * 52427), (0, (cache + bytes([16]) + bytes(12) + bytes([17, 1, 0, 0, 0]) * 58)),
                        (0, bytes([16]) + bytes(12) + (bytes([16]) + by(9, 4) + by(1, 4) + by(3, 4)) * 52426), (1, memory * 26213),
-                       (2, matrix + cells), (2, matrix * 7), (2, bytes([53]) + bytes(16) + bytes([54, 1, 2]) * 65535), (2, (bytes([48]) + by(1, 4) + by(2, 4)) * 26213)):
+                       (2, matrix + cells), (2, matrix * 7), (2, bytes([53]) + bytes(16) + bytes([54, 1, 2]) * 65535), (2, (bytes([48]) + by(1, 4) + by(2, 4)) * 26213),
+                       (3, small_window(4) * 10485 + small_window(0)), (3, (bytes([67, 1]) + (bytes([68]) + by(3, 8)) * 255) * 485)):
         yield bytes([1, t]) + b'OEMOEMTABLETAB' + by(1, 4) + CREATOR + records
 
 
@@ -221,6 +297,8 @@ def rand_record(R, t):
         return g_cache(R, R.choice([0, 0, 1, 2]))
     if t == 1:
         return g_srat(R, k)
+    if t == 3:
+        return g_cedt(R, k)
     if k == 48:
         return bytes([48]) + by(num(R, 4), 4) + by(num(R, 4), 4)
     if k == 49:
@@ -251,7 +329,7 @@ def not_given(bit, at, width):
 
 # kind: for each of its fields that have a rule, in body order, the ways to make it bad: bytes of the record, bits off, bits on
 SPOILS = {
-    1: [set_one(1, 3, 4, 255)],
+    1: [set_one(1, 4, 5, 128, 255)],
     18: [not_given(1, 6, 4), not_given(2, 10, 4), not_given(4, 14, 1),
          or_one(15, 32, 64, 128)                                            # the rest 0
          + [((1, 0, 8), (15, 0, 3)), ((1, 8, 0), (15, 3, 1)), ((1, 8, 0), (15, 3, 2))]          # allocation
@@ -267,6 +345,10 @@ SPOILS = {
     51: [set_one(1, 3, 2, 4, 5, 6, 255)],
     52: [set_one(1, 2, 3, 4, 5, 6, 255), set_one(2, 3, 2, 4, 5, 6, 255)],
     53: [or_one(13, 4, 8, 64, 128) + or_one(14, 3, 4, 8, 48, 64, 128)],     # both levels, associativity and policy
+    64: [set_one(5, 2, 3, 128, 255)],
+    65: [set_one(17, *(code for code in range(256) if code not in WAYS)), set_one(18, 2, 3, 128, 255), set_one(19, 7, 8, 128, 255),
+         or_one(20, 32, 64, 128)],
+    67: [set_one(1, 7, 8, 128, 255)],
 }
 
 
@@ -321,6 +403,20 @@ def ordinals(recs):
     return out
 
 
+def spoil_window(R, recs):
+    """another number of ways for a window, or another record among its targets; recs is changed"""
+    windows = [i for i, r in enumerate(recs) if len(r) == 23 and r[0] == 65]
+    if not windows:
+        return
+    i = R.choice(windows)
+    if R.random() < .4:
+        recs[i] = spoiled(recs[i], set_one(17, R.choice(list(WAYS))))
+    else:
+        other = rand_record(R, 3)
+        recs.insert(i + R.randrange(1, 4), R.choice([other, other, spoil_field(R, other), other[:-1], g_target(R), g_target(R)[:3],
+                                                    bytes([R.choice([0, 63, 69, 200])]), head(R, 3)]))
+
+
 def damage_recipe(R, t, h, recs):
     """one damage on the head and the list of records; gives (h, recs) or bytes"""
     recs = list(recs)
@@ -335,19 +431,19 @@ def damage_recipe(R, t, h, recs):
         whole = h + b''.join(recs)
         return whole[:R.choice([R.randrange(len(whole) + 1), max(len(whole) - R.randrange(1, 6), 0), R.randrange(28, len(whole) + 1)])]
     elif c == 2:    # a kind of another table
-        recs.insert(R.randrange(len(recs) + 1), rand_record(R, R.choice([x for x in (0, 1, 2) if x != t])))
+        recs.insert(R.randrange(len(recs) + 1), rand_record(R, R.choice([x for x in KINDS if x != t])))
     elif c == 3:    # unknown kinds, the edges of the ranges
-        k = R.choice([0, 2, 15, 19, 20, 31, 36, 47, 55, 56, 64, 80, 96, 255, 128 + 16, R.randrange(256)])
+        k = R.choice([0, 2, 15, 19, 20, 31, 36, 47, 55, 56, 63, 64, 68, 69, 80, 96, 255, 128 + 16, R.randrange(256)])
         recs.insert(R.randrange(len(recs) + 1), bytes([k]) + bytes(R.randrange(0, 24)))
     elif c == 4:    # second head, whole or cut
-        recs.insert(R.randrange(len(recs) + 1), head(R, R.randrange(4))[:R.choice([28, 28, 1, 5])])
+        recs.insert(R.randrange(len(recs) + 1), head(R, R.randrange(5))[:R.choice([28, 28, 1, 5])])
     elif c in (5, 6):   # misplaced joined record
-        joined = {0: [17], 1: [], 2: [50, 51, 52, 54]}[t]
+        joined = [k for k in KINDS[t] if k in BEHIND]
         if joined:
             k = R.choice(joined)
             r = {17: bytes([17]) + by(R.choice([0, 1, 2]), 4), 50: bytes([50, 0]) + by(num(R, 4), 4),
                  51: bytes([51, 0]) + by(num(R, 4), 4), 52: bytes([52, 0, 0]) + by(num(R, 2), 2),
-                 54: bytes([54]) + by(num(R, 2), 2)}[k]
+                 54: bytes([54]) + by(num(R, 2), 2), 66: g_target(R), 68: g_map(R)}[k]
             recs.insert(R.randrange(len(recs) + 1), r)
         elif len(recs) > 1:
             j = R.randrange(len(recs))
@@ -355,6 +451,8 @@ def damage_recipe(R, t, h, recs):
     elif c in (7, 8, 9):   # a field
         if recs:
             recs[i] = spoil_field(R, recs[i])
+    elif c in (10, 11, 12) and t == 3:     # the ways of a window
+        spoil_window(R, recs)
     elif c in (10, 11, 12):  # a reference
         if recs:
             withref = [j for j, r in enumerate(recs) if r and r[0] in (16, 17, 18)]
@@ -363,7 +461,7 @@ def damage_recipe(R, t, h, recs):
             recs[i] = spoil_ref(R, recs[i], ordinals(recs)[i], node_kinds(recs))
     elif c == 13:   # table code, or the first byte
         if R.random() < .6:
-            h = h[:1] + bytes([R.choice([3, 4, 255, 128, (t + 1) % 3])]) + h[2:]
+            h = h[:1] + bytes([R.choice([4, 5, 255, 128, (t + 1) % 4])]) + h[2:]
         else:
             h = bytes([R.choice([0, 2, 16, 17, 48, 255, 32])]) + h[1:]
     elif c == 14 and len(recs) > 1:   # swap
@@ -401,6 +499,36 @@ def full_recipe(R, n):
         if R.random() < .3:
             r += R.choice([g_cache(R, 0), g_res(R, 1), g_res(R, 0)])
     return r
+
+
+def full_cedt(R):
+    """as many targets on a window as it has ways, or as many maps on maths as are counted; one less and more, and other records behind"""
+    if R.random() < .6:
+        code = R.choice(list(WAYS))
+        node = g_window(R, code) + g_targets(R, WAYS[code] + R.choice([-1, 0, 0, 1]))
+    else:
+        node = g_maths(R) + g_map(R) * R.choice([254, 255, 255, 256])
+    other = rand_record(R, 3)
+    behind = R.choice([b'', b'', g_target(R), g_target(R)[:4], g_map(R), g_map(R)[:5], other, spoil_field(R, other), other[:-1],
+                       bytes([R.randrange(256)]), head(R, 3)])
+    return head(R, 3) + R.choice([b'', g_bridge(R), g_maths(R), g_window(R, 0) + g_target(R)]) + node + behind
+
+
+def nearly_full(left, h=bytes([1, 3]) + bytes(26)):
+    """a CEDT with room for so many bytes more, a multiple of 4: of bridges, maths without maps and perhaps a window of two ways"""
+    fill, window = LIMIT - FRONT[3] - left, b''
+    if fill % 8:
+        fill, window = fill - 44, small_window(1)
+    return h + window + (bytes([64]) + bytes(13)) * (fill // 32) + bytes([67, 0]) * (fill % 32 // 8)
+
+
+def long_cedt(R):
+    """a CEDT of nearly 1,048,576 bytes, and records of every sort behind it"""
+    code, left = R.choice(list(WAYS)), R.choice([0, 4, 8, 28, 32, 36, 40, 44, 96, 100])
+    window = g_window(R, code)
+    return nearly_full(left, head(R, 3)) + R.choice([
+        b'', g_bridge(R), g_maths(R), g_map(R), g_target(R), window, window + g_targets(R, WAYS[code]), spoil_field(R, window),
+        window + g_targets(R, WAYS[code] + 1), window + g_target(R)[:2], window + g_bridge(R), g_maths(R) + g_map(R) * 3])
 
 
 def handles_recipe(R):
@@ -464,16 +592,18 @@ def long_pptt(R):
 def recipe(R):
     if R.random() < .0003:
         return handles_recipe(R)
-    if R.random() < .0003:
-        return long_pptt(R)
+    if R.random() < .0006:
+        return R.choice([long_pptt, long_cedt])(R)
     c = R.random()
     if c < .01:
-        return R.choice([b'', b'\x01', bytes([R.randrange(256)]), b'\x01\x03', bytes(28), bytes([1, 3]) + bytes(26)])
+        return R.choice([b'', b'\x01', bytes([R.randrange(256)]), b'\x01\x04', bytes(28), bytes([1, 4]) + bytes(26)])
     if c < .03:
         return full_recipe(R, R.choice([57, 58, 58, 59, 59, 60]))
     if c < .05:
+        return full_cedt(R)
+    if c < .07:
         return long_recipe(R)
-    t = R.choice([0, 0, 1, 2, 2])
+    t = R.choice(TABLES)
     h, recs = head(R, t), good_records(R, t, node_size(R))
     if c < .40:
         return h + b''.join(recs)
@@ -493,8 +623,39 @@ def every_fault(rec):
             yield spoiled(rec, [ways[way % len(ways)] for ways in fields])
 
 
+def every_kind():
+    """each byte as the kind of the first record behind each head, whole and cut"""
+    for t in KINDS:
+        for k in range(256):
+            record = bytes([k]) + bytes(BODY.get(k, 30))
+            yield from (bytes([1, t]) + bytes(26) + record, bytes([1, t]) + bytes(26) + record[:-1])
+
+
+def cedt_faults():
+    """every set of bad fields, and the largest good ones; windows with targets from none to one too many, maths with many maps, the head and
+    a bridge, and behind each the end or a record of every sort; the same at the limit of the table's length"""
+    h = bytes([1, 3]) + bytes(26)
+    bridge, window, target, maths, xor_map = (bytes([k]) + bytes(BODY[k]) for k in KINDS[3])
+    for rec in (bridge, window, maths):
+        yield from (h + bad for bad in every_fault(rec))
+    yield h + small_window(10, 1, 6, 31) + spoiled(bridge, set_one(5, 1)) + spoiled(maths, set_one(1, 6))
+    bad = [spoiled(rec, SPOILS[rec[0]][0][:1]) for rec in (bridge, window, maths)]
+    whole = [b'', h, bridge, window, target, maths, xor_map, bytes([16]) + bytes(12)]
+    behind = whole + bad + [rec[:-1] for rec in whole[1:]] + [bytes([k]) for k in (0, 1, 63, 64, 65, 66, 68, 69, 200)]
+    for code, ways in WAYS.items():
+        for n in range(ways + 2):
+            yield from (h + spoiled(window, set_one(17, code)) + target * n + other for other in behind)
+    for node in [b'', bridge] + [maths + xor_map * n for n in (0, 1, 254, 255, 256)]:
+        yield from (h + node + other for other in behind)
+    for left, rest in ((28, bridge), (32, bridge), (36, window), (36, window + target), (40, window), (40, window + target * 2), (36, bad[1]),
+                       (40, window + target), (4, maths), (8, maths + xor_map), (0, xor_map),
+                       (2048, maths + xor_map * 256)):
+        yield nearly_full(left) + rest
+
+
 def faults():
-    """small recipes with one bad record: every set of bad fields of each kind, with references good and bad; every sort of reference"""
+    """small recipes with one bad record: every set of bad fields of each kind, with references good and bad; every sort of reference;
+    every kind in every table; nodes that are too full or not full enough"""
     heads = [bytes([1, t]) + bytes(26) for t in range(3)]
     cache, processor, resource = bytes([18]) + bytes(21), bytes([16]) + bytes(12), bytes([17]) + bytes(4)
     nodes = heads[0] + cache + processor     # nodes 1 and 2, and the record behind them is node 3
@@ -516,6 +677,10 @@ def faults():
     for k in (50, 51, 52):
         for bad in every_fault(bytes([k]) + bytes(BODY[k])):
             yield heads[2] + matrix + bad
+    yield heads[2] + bytes([53]) + bytes(16) + bytes([54, 0, 0]) * 65536
+    yield heads[0][:27]
+    yield from every_kind()
+    yield from cedt_faults()
 
 
 def outside(recipe):
@@ -523,7 +688,7 @@ def outside(recipe):
     at, oblong = 28, False
     while at < len(recipe):
         kind = recipe[at]
-        if kind == 35 or (kind == 52 and oblong):
+        if kind in (35, 64) or (kind == 52 and oblong) or (kind == 65 and recipe[at + 20] & 2):
             return True
         if kind == 49:
             oblong = recipe[at + 12] != recipe[at + 13]
@@ -537,13 +702,14 @@ def frames(tab):
     """places of the records of a good table (by its own frames), with lengths"""
     t = NAMES.index(tab[:4])
     p, out = FRONT[t], []
-    n = le(tab[4:8])
-    while p < min(n, len(tab) - 8):
-        s = le(tab[p + 4:p + 8]) if t == 2 else tab[p + 1]
-        if s < (8 if t == 2 else 2) or p + s > len(tab):
-            break
-        out.append((p, s))
-        p += s
+    own = tab[:le(tab[4:8])]
+    try:
+        while p < len(own):
+            _, s = framed(t, own, p)
+            out.append((p, s))
+            p += s
+    except Stop:
+        pass
     return t, out
 
 
@@ -552,6 +718,19 @@ def set_length(tab):
     if len(b) >= 8:
         b[4:8] = by(len(b), 4)
     return bytes(b)
+
+
+def cedt_record(typ, body, reserved=0):
+    return bytes([typ, reserved]) + by(4 + len(body), 2) + body
+
+
+def window_record(code, targets):
+    """a window with so many bytes behind its 36"""
+    return cedt_record(1, bytes(20) + bytes([code]) + bytes(11) + bytes(targets))
+
+
+def maths_record(count, maps):
+    return cedt_record(2, bytes([0, 0, 6, count]) + bytes(8 * maps))
 
 
 def odd_record(R, t):
@@ -564,6 +743,10 @@ def odd_record(R, t):
             body[4:8] = by(R.choice([256, 0, 1, 255, 65536, 1 << 24]), 4)
             body[8:12] = by(R.choice([256, 0, 1, 255, 65536, 1 << 31]), 4)
         return by(typ, 2) + by(R.choice([0, 0, 0, 1, 256]), 2) + by(n, 4) + bytes(body)
+    if t == 3:
+        typ = R.choice([0, 0, 1, 1, 2, 2, 3, 3, 4, 255, R.randrange(256)])
+        n = R.choice([4, 5, 7, 8, 9, 15, 16, 17, 24, 31, 32, 33, 36, 37, 38, 39, 40, 41, 44, 48, 300, R.randrange(4, 60)])
+        return cedt_record(typ, bytes(R.choice([0, 0, 0, R.randrange(256)]) for _ in range(n - 4)), R.choice([0, 0, 0, 1, 255]))
     typ = R.choice([0, 0, 1, 1, 2, 3, 5, 7, 255, R.randrange(256)])
     n = R.choice([2, 3, 4, 8, 16, 17, 18, 19, 20, 21, 22, 24, 27, 28, 29, 32, 33, 40, 44, R.randrange(2, 60)])
     return bytes([typ, n]) + bytes(R.choice([0, 0, 0, R.randrange(256)]) for _ in range(n - 2))
@@ -575,12 +758,21 @@ def matrix_256(R):
     return (by(1, 2) + bytes(2) + by(32 + len(vals), 4) + bytes([0, 0, 0, 0]) + by(I, 4) + by(T, 4) + bytes(4) + by(5, 8) + vals)
 
 
+def crowded_record(R):
+    """a window of 16 targets or of one too many, maths of 255 maps or of one too many"""
+    more = R.randrange(2)
+    return R.choice([window_record(4, 64 + 4 * more), maths_record(R.choice([255, 255 + more & 255]), 255 + more)])
+
+
+# of a row: bytes that are zeros, and of a bridge the length that its version settles
 ZEROS = {0: [2, 3], 1: [2, 3], 2: [6, 7, 24, 25, 26, 27, 32, 33, 35, 39], 3: [2, 28, 29, 31], 4: [2, 3],
-         5: [2, 3, 10, 11, 20, 21, 30, 39], 6: [2, 3, 11, 20, 21, 23], 7: [2, 3, 12, 15, 28, 29]}
+         5: [2, 3, 10, 11, 20, 21, 30, 39], 6: [2, 3, 11, 20, 21, 23], 7: [2, 3, 12, 15, 28, 29],
+         8: [1, 12, 15, 24, 25, 26, 28, 31], 9: [1, 4, 7, 26, 27], 10: [1, 4, 5]}
 
 
-def row_here(t, typ, n):
-    return {(0, 0): 0, (0, 1): 1, (1, 1): 2, (1, 5): 3, (1, 7): 4, (2, 0): 5, (2, 1): 6, (2, 2): 7}.get((t, typ))
+def row_here(t, typ):
+    return {(0, 0): 0, (0, 1): 1, (1, 1): 2, (1, 5): 3, (1, 7): 4, (2, 0): 5, (2, 1): 6, (2, 2): 7,
+            (3, 0): 8, (3, 1): 9, (3, 2): 10}.get((t, typ))
 
 
 def damage_table(R, tab):
@@ -591,19 +783,16 @@ def damage_table(R, tab):
     t, fs = frames(tab)
     c = R.randrange(24)
     p, n = R.choice(fs) if fs else (None, None)
-    typ = None if p is None else (le(tab[p:p + 2]) if t == 2 else tab[p])
-    row = None if p is None else row_here(t, typ, n)
+    wide, at, length_wide, least = FRAME[t]
+    row = None if p is None else row_here(t, le(tab[p:p + wide]))
     if c == 0:      # the table's length
         v = R.choice([len(b) - 1, len(b) + 1, FRONT[t] - 1, FRONT[t], 0, 36, 35, LIMIT, LIMIT + 1, 0xFFFFFFFF, len(b) - 2, len(b) - 4,
                       R.randrange(len(b) + 40)])
         b[4:8] = by(max(v, 0), 4)
     elif c == 1 and p is not None:   # a record's length
         d = R.choice([-4, -2, -1, 1, 2, 4, 8, -8, 16])
-        v = R.choice([n + d, n + d, 0, 1, 2, 7, 8, 255, n + 256, 252, 256])
-        if t == 2:
-            b[p + 4:p + 8] = by(max(v, 0), 4)
-        else:
-            b[p + 1] = v % 256
+        v = R.choice([n + d, n + d, 0, 1, 2, 3, 4, 7, 8, 255, n + 256, 252, 256])
+        b[p + at:p + at + length_wide] = by(v % 256 ** length_wide, length_wide)
     elif c == 2:     # cut, the length following
         return set_length(tab[:R.randrange(36, len(tab) + 1)])
     elif c == 3:     # cut, the length not following
@@ -639,6 +828,10 @@ def damage_table(R, tab):
         elif row == 7 and n >= 32:
             o = le(b[p + 30:p + 32])
             b[p + 30:p + 32] = by(R.choice([(o + 1) & 65535, max(o - 1, 0), (o + 256) & 65535, 0, 65535]), 2)
+        elif row == 9 and n > 24:
+            b[p + 24] = R.choice([*WAYS, *WAYS, 5, 7, 11, 16, 255, R.randrange(256)])
+        elif row == 10 and n >= 8:
+            b[p + 7] = (b[p + 7] + R.choice([1, 2, 255])) % 256
     elif c in (10, 11) and p is not None and row is not None:  # zeros
         z = [x for x in ZEROS[row] if x < n]
         if row == 3:
@@ -649,7 +842,9 @@ def damage_table(R, tab):
     elif c in (12, 13, 14) and p is not None and row is not None:   # ranges and bit rules
         spots = {0: [(1, 1), (16, 4)], 1: [(4, 4), (5, 1), (7, 1), (25 - 4, 1), (12, 4), (16, 4), (20, 1), (21, 1), (22, 2), (24, 4)],
                  2: [(28, 4), (29, 1), (31, 1)], 3: [(3, 1), (24, 4), (25, 1), (27, 1)], 4: [(8, 4), (9, 1), (11, 1)],
-                 5: [(8, 2), (8, 1), (9, 1)], 6: [(8, 1), (9, 1), (10, 1)], 7: [(24, 4), (24, 1), (25, 1), (26, 1)]}[row]
+                 5: [(8, 2), (8, 1), (9, 1)], 6: [(8, 1), (9, 1), (10, 1)], 7: [(24, 4), (24, 1), (25, 1), (26, 1)],
+                 8: [(8, 4), (8, 1), (9, 1), (11, 1)], 9: [(24, 1), (25, 1), (28, 4), (28, 1), (29, 1), (31, 1), (32, 2), (32, 1), (33, 1)],
+                 10: [(6, 1), (7, 1)]}[row]
         at, w = R.choice(spots)
         if at + w <= n:
             b[p + at:p + at + w] = by(R.choice([0, 1, 2, 3, 4, 5, 6, 7, 8, 11, 12, 15, 16, 32, 64, 128, 255, num(R, w)]) & (256 ** w - 1), w)
@@ -661,19 +856,19 @@ def damage_table(R, tab):
         i = R.randrange(4)
         b[i] = R.choice([b[i] ^ 32, 0, R.randrange(256)])
         if R.random() < .3:
-            b[:4] = R.choice([b'TTPP', b'FACP', b'PPTU', b'srat', b'SRAS', NAMES[(t + 1) % 3], NAMES[(t + 2) % 3]])
+            b[:4] = R.choice([b'TTPP', b'FACP', b'PPTU', b'srat', b'SRAS', b'CEDU', *NAMES])
     elif c == 18:    # trailing bytes
         return tab + bytes(R.randrange(256) for _ in range(R.choice([1, 2, 7, 40])))
-    elif c == 19 and t:    # front
+    elif c == 19 and FRONT[t] > 36:    # front
         b[R.randrange(36, FRONT[t])] = R.choice([0, 1, 2, 255])
     elif c == 20 and p is not None:   # any byte of a record
         b[p + R.randrange(n)] = R.choice([0, 1, 255, R.randrange(256)])
     elif c == 21:    # rest too short
-        return set_length(tab + bytes(R.randrange(1, 9 if t == 2 else 3)))
+        return set_length(tab + bytes(R.randrange(1, least + 1)))
     elif c == 22:    # type
         if p is not None:
             b[p] = R.choice([0, 1, 2, 3, 5, 6, 7, 255])
-            if t == 2 and R.random() < .3:
+            if t in (2, 3) and R.random() < .3:     # a wider type, or the frame's reserved byte
                 b[p + 1] = R.choice([1, 255])
     elif c == 23:
         if fs and R.random() < .5:    # two records in the other order
@@ -687,16 +882,17 @@ def lent_table(R):
     """bytes lent to the reader"""
     c = R.random()
     if c < .01:
-        return R.choice([b'', b'P', b'PPTT', bytes(35), bytes(36), b'SRAT' + by(36, 4) + bytes(28), b'HMAT' + by(39, 4) + bytes(31)])
-    t = R.choice([0, 0, 1, 2, 2])
+        return R.choice([b'', b'P', b'PPTT', bytes(35), bytes(36), b'SRAT' + by(36, 4) + bytes(28), b'HMAT' + by(39, 4) + bytes(31),
+                         b'CEDT' + by(35, 4) + bytes(28)])
+    t = R.choice(TABLES)
     r = full_recipe(R, R.choice([57, 58])) if t == 0 and R.random() < .01 else good_recipe(R, t)
     tab = table(r)
     if not tab:
         tab = table(good_recipe(R, t))
     if c < .25:
         return tab
-    if c < .28 and t == 2:
-        return mend(set_length(tab + matrix_256(R)))
+    if c < .28 and t in (2, 3):
+        return mend(set_length(tab + (matrix_256(R) if t == 2 else crowded_record(R))))
     for _ in range(R.choice([1, 1, 1, 2, 2, 3])):
         tab = damage_table(R, tab)
     if R.random() < .88:
@@ -706,9 +902,71 @@ def lent_table(R):
     return tab
 
 
+ROWS = (1 << 11) - 1    # the mask of every row
+
+
 def mask(R):
-    return R.choice([ALL, ALL, 255, 255, 255, 0, R.randrange(256), R.randrange(256), 1 << R.randrange(8), 255 ^ (1 << R.randrange(8)),
-                     R.randrange(1 << 32), 0xFFFFFF00, (255 ^ (1 << R.randrange(8))) | 0xFFFFFF00])
+    return R.choice([ALL, ALL, ROWS, ROWS, 255, 0, R.randrange(ROWS + 1), R.randrange(ROWS + 1), 1 << R.randrange(11), ROWS ^ (1 << R.randrange(11)),
+                     R.randrange(1 << 32), ALL ^ ROWS, ALL ^ (1 << R.randrange(11))])
+
+
+def table_of_each():
+    """small tables of which each has records of all rows of its own"""
+    cache, processor, resource = (bytes([18, 255]) + by(0, 4) + by(4096, 4) + by(64, 4) + bytes([8, 26]) + by(64, 2) + by(5, 4),
+                                  bytes([16]) + by(2, 4) + by(0, 4) + by(7, 4), bytes([17]) + by(1, 4))
+    srat = bytes([32]) + by(1, 4) + by(2, 8) + by(3, 8) + b'\7' + bytes([33]) + by(1, 4) + b'ACPI0017' + by(9, 4) + b'\3'
+    srat += bytes([34]) + by(1, 4) + by(258, 2) + bytes([3, 31, 7, 3]) + bytes([35]) + by(7, 4) + b'\1' + by(5, 4)
+    hmat = bytes([48]) + by(1, 4) + by(2, 4) + bytes([49, 0x33, 5, 11]) + by(1000, 8) + b'\1\2' + bytes([53]) + by(4, 4) + by(5, 8) + by(0x402211, 4)
+    cedt = b''.join(bytes([64]) + by(9, 4) + bytes([version]) + by(1 << 40, 8) for version in (0, 1)) + small_window(1, 1, 6, 31)
+    for t, records in enumerate((cache + processor + resource, srat, hmat + bytes([54, 1, 2]), cedt + bytes([67, 6]) + (bytes([68]) + by(5, 8)) * 2)):
+        yield table(bytes([1, t]) + bytes(26) + records)
+
+
+def touched(tab):
+    """the table with each byte behind the header other than it was, and the sum mended"""
+    for at in range(36, len(tab)):
+        for v in {0, 1, 255, tab[at] ^ 128, (tab[at] + 1) % 256} - {tab[at]}:
+            yield mend(tab[:at] + bytes([v]) + tab[at + 1:])
+
+
+def cedt_records_at_edges():
+    """records of each type in every small length, windows of every code, and counts, targets and maps that do not go together"""
+    for typ in range(5):
+        for n in range(41):
+            yield from (cedt_record(typ, bytes(n), reserved) for reserved in (0, 1))
+    for code in range(256):
+        yield from (window_record(code, 4 * n) for n in {1, 2, WAYS.get(code, 16)})
+    for code, ways in WAYS.items():
+        yield from (window_record(code, 4 * ways + d) for d in (-4, -1, 1, 4))
+    yield window_record(4, 68)
+    for maps in (1, 254, 255, 256):
+        yield from (maths_record(count, maps) for count in (0, 1, 2, 254, 255))
+    yield from (cedt_record(typ, bytes(n - 4)) for typ in (0, 1, 2, 3) for n in (256, 288, 296, 65535))
+
+
+def cedt_of(records, revision=1):
+    empty = table(bytes([1, 3]) + bytes(26))
+    return mend(set_length(empty[:8] + bytes([revision]) + empty[9:] + records))
+
+
+def cedt_tables_at_edges():
+    """CEDTs of one such record, alone and behind a bridge; of frames that do not hold; of other revisions, under which nothing is known"""
+    bridge = cedt_record(0, bytes(20) + by(0x2000, 8))
+    for record in cedt_records_at_edges():
+        yield cedt_of(record)
+    for typ in range(4):
+        yield from (cedt_of(bridge + bytes([typ, 0]) + by(n, 2) + bytes(28)) for n in (0, 1, 2, 3, 33, 34, 65535))
+        yield from (cedt_of(bridge + bytes([typ, 0, 4, 0])[:n]) for n in range(1, 5))
+    for revision in (0, 2, 3, 255):
+        yield from (cedt_of(records, revision) for records in (b'', bridge, bridge + window_record(5, 4), window_record(4, 4), bytes([1, 0, 3, 0])))
+
+
+def faulty_tables():
+    """tables of every row, good and with each byte of their records changed; CEDTs at the edges of their rows"""
+    for tab in table_of_each():
+        yield tab
+        yield from touched(tab)
+    yield from cedt_tables_at_edges()
 
 
 if __name__ == '__main__':

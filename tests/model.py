@@ -1,11 +1,20 @@
-"""A reading of documents 01 and 02 in another language: pure functions on bytes, sharing no code with the crates. Of document 02: order 1."""
+"""A reading of documents 01 and 02 in another language: pure functions on bytes, sharing no code with the crates. Of document 02: orders 1 and 2."""
 LIMIT = 1 << 20
-NAMES = (b'PPTT', b'SRAT', b'HMAT')
-FRONT = (36, 48, 40)
-REV = (3, 3, 1)
-TAIL = (b'', b'\x01\0\0\0' + bytes(8), bytes(4))
+NAMES = (b'PPTT', b'SRAT', b'HMAT', b'CEDT')
+FRONT = (36, 48, 40, 36)
+REV = (3, 3, 1, 1)
+TAIL = (b'', b'\x01\0\0\0' + bytes(8), bytes(4), b'')
+# of a record's frame: the type's width, where the length stands and its width, and the least length
+FRAME = ((1, 1, 1, 2), (1, 1, 1, 2), (2, 4, 4, 8), (1, 2, 2, 4))
 BODY = {1: 27, 16: 12, 17: 4, 18: 21, 32: 21, 33: 17, 34: 10, 35: 9,
-        48: 8, 49: 13, 50: 5, 51: 5, 52: 4, 53: 16, 54: 2}
+        48: 8, 49: 13, 50: 5, 51: 5, 52: 4, 53: 16, 54: 2,
+        64: 13, 65: 22, 66: 4, 67: 1, 68: 8}
+# a record that joins a node: the kinds that it may stand directly behind
+BEHIND = {17: (16, 17), 50: (49, 50, 51, 52), 51: (49, 50, 51, 52), 52: (49, 50, 51, 52), 54: (53, 54), 66: (65, 66), 68: (67, 68)}
+# a window's code and its number of ways
+WAYS = {0: 1, 1: 2, 2: 4, 3: 8, 4: 16, 8: 3, 9: 6, 10: 12}
+# a bridge's version and the length of its registers
+REGISTERS = {0: 0x2000, 1: 0x10000}
 ALL = 0xFFFFFFFF
 
 
@@ -24,6 +33,8 @@ def table_of_kind(k):
         return 1
     if 48 <= k <= 54:
         return 2
+    if 64 <= k <= 68:
+        return 3
     return None
 
 
@@ -44,7 +55,7 @@ def rules(r, last=None):
     whether it is good; last is the matrix that a value or a cell joins"""
     k = r[0]
     if k == 1:
-        return [(1, r[1] <= 2)]
+        return [(1, r[1] <= 3)]
     if k == 18:      # a field whose bit is off is 0
         on = [r[1] >> i & 1 for i in range(8)]
         return [(6, on[0] or le(r[6:10]) == 0),
@@ -71,6 +82,12 @@ def rules(r, last=None):
         return [(1, r[1] < last['I']), (2, r[2] < last['T'])]
     if k == 53:
         return [(13, side_ok(le(r[13:17])))]
+    if k == 64:
+        return [(5, r[5] in REGISTERS)]
+    if k == 65:
+        return [(17, r[17] in WAYS), (18, r[18] <= 1), (19, r[19] <= 6), (20, r[20] <= 31)]
+    if k == 67:
+        return [(1, r[1] <= 6)]
     return []
 
 
@@ -109,6 +126,13 @@ def judge_ref(ref, kind, own, nodes, p):
         raise Stop(10, p)
 
 
+def judge_window(nodes, following):
+    """11: the newest node is a window that lacks targets, and the byte that follows, if any, is not the kind of one"""
+    last = nodes[-1] if nodes else None
+    if last and last['kind'] == 65 and len(last['targets']) < WAYS[last['ways']] and following != bytes([66]):
+        raise Stop(11, last['start'])
+
+
 def parse(r):
     """recipe -> (table code, head bytes, nodes); nodes: dicts. Raises Stop."""
     if len(r) == 0 or r[0] != 1:
@@ -122,6 +146,7 @@ def parse(r):
     p = 28
     prev = 1                      # the kind of the record before
     while p < len(r):
+        judge_window(nodes, r[p:p + 1])
         k = r[p]
         if k not in BODY or table_of_kind(k) != t:
             raise Stop(2, p)
@@ -129,11 +154,7 @@ def parse(r):
         if e > len(r):
             raise Stop(3, p)
         b = r[p + 1:e]
-        if k == 17 and prev not in (16, 17):
-            raise Stop(4, p)
-        if k in (50, 51, 52) and prev not in (49, 50, 51, 52):
-            raise Stop(4, p)
-        if k == 54 and prev not in (53, 54):
+        if k in BEHIND and prev not in BEHIND[k]:
             raise Stop(4, p)
         last = nodes[-1] if nodes else None
         own = len(nodes) + 1      # ordinal of the node to come
@@ -196,6 +217,28 @@ def parse(r):
             if len(last['hs']) >= 65535:
                 raise Stop(7, p)
             grow = 2
+        elif k == 64:
+            uid, version, base = cut(b, 4, 1, 8)
+            new = dict(kind=64, uid=uid, version=version, base=base)
+            grow = 32
+        elif k == 65:
+            base, size, ways, arithmetic, granularity, restrictions, qtg = cut(b, 8, 8, 1, 1, 1, 1, 2)
+            new = dict(kind=65, start=p, base=base, size=size, ways=ways, arithmetic=arithmetic, granularity=granularity,
+                       restrictions=restrictions, qtg=qtg, targets=[])
+            grow = 0x24 + 4 * WAYS[ways]
+        elif k == 66:
+            (target,) = cut(b, 4)
+            if len(last['targets']) >= WAYS[last['ways']]:
+                raise Stop(7, p)
+        elif k == 67:
+            (granularity,) = cut(b, 1)
+            new = dict(kind=67, granularity=granularity, maps=[])
+            grow = 8
+        elif k == 68:
+            (xor_map,) = cut(b, 8)
+            if len(last['maps']) >= 255:
+                raise Stop(7, p)
+            grow = 8
         if total + grow > LIMIT:
             raise Stop(8, p)
         # taken
@@ -212,9 +255,14 @@ def parse(r):
             last['cells'][i, t2] = val
         elif k == 54:
             last['hs'].append(h)
+        elif k == 66:
+            last['targets'].append(target)
+        elif k == 68:
+            last['maps'].append(xor_map)
         total += grow
         prev = k
         p = e
+    judge_window(nodes, b'')
     return t, head, nodes, total
 
 
@@ -255,6 +303,17 @@ def node_bytes(n, nodes):
         return (by(2, 2) + bytes(2) + by(32 + 2 * len(hs), 4) + by(n['dom'], 4) + bytes(4)
                 + by(n['size'], 8) + by(n['attr'], 4) + bytes(2) + by(len(hs), 2)
                 + b''.join(by(h, 2) for h in hs))
+    if k == 64:
+        return (bytes([0, 0]) + by(32, 2) + by(n['uid'], 4) + by(n['version'], 4) + bytes(4)
+                + by(n['base'], 8) + by(REGISTERS[n['version']], 8))
+    if k == 65:
+        return (bytes([1, 0]) + by(0x24 + 4 * len(n['targets']), 2) + bytes(4) + by(n['base'], 8) + by(n['size'], 8)
+                + bytes([n['ways'], n['arithmetic']]) + bytes(2) + by(n['granularity'], 4) + by(n['restrictions'], 2) + by(n['qtg'], 2)
+                + b''.join(by(x, 4) for x in n['targets']))
+    if k == 67:
+        maps = n['maps']
+        return (bytes([2, 0]) + by(8 + 8 * len(maps), 2) + bytes(2) + bytes([n['granularity'], len(maps)])
+                + b''.join(by(x, 8) for x in maps))
     raise AssertionError(k)
 
 
@@ -332,6 +391,14 @@ def node_recipe(n):
     if k == 53:
         return (bytes([53]) + by(n['dom'], 4) + by(n['size'], 8) + by(n['attr'], 4)
                 + b''.join(bytes([54]) + by(h, 2) for h in n['hs']))
+    if k == 64:
+        return bytes([64]) + by(n['uid'], 4) + bytes([n['version']]) + by(n['base'], 8)
+    if k == 65:
+        return (bytes([65]) + by(n['base'], 8) + by(n['size'], 8)
+                + bytes([n['ways'], n['arithmetic'], n['granularity'], n['restrictions']]) + by(n['qtg'], 2)
+                + b''.join(bytes([66]) + by(x, 4) for x in n['targets']))
+    if k == 67:
+        return bytes([67, n['granularity']]) + b''.join(bytes([68]) + by(x, 8) for x in n['maps'])
     raise AssertionError(k)
 
 
@@ -363,13 +430,20 @@ def row_of(t, rev, typ, b, mask):
             row = 3
         elif typ == 7 and n == 16:
             row = 4
-    else:
+    elif t == 2:
         if typ == 0 and n == 40:
             row = 5
         elif typ == 1 and n >= 32 and le(b[12:16]) <= 255 and le(b[16:20]) <= 255:
             row = 6
         elif typ == 2 and n >= 32:
             row = 7
+    else:
+        if typ == 0 and n == 32:
+            row = 8
+        elif typ == 1 and n >= 40:     # no code stands for 0 ways
+            row = 9
+        elif typ == 2 and n >= 8:
+            row = 10
     if row is None or not mask >> row & 1:
         return None
     return row
@@ -412,7 +486,28 @@ def fields_of(row, b):
     if row == 7:
         dom, z, size, attr, z2, c = cut(b[8:32], 4, 4, 8, 4, 2, 2)
         return z0 == 0 and z == 0 and z2 == 0 and side_ok(attr) and n == 32 + 2 * c, [dom, size, attr, c]
+    z0 = b[1]        # the frame of a CEDT has one reserved byte
+    if row == 8:
+        uid, version, z, base, length = cut(b[4:], 4, 4, 4, 8, 8)
+        return z0 == 0 and z == 0 and length == REGISTERS.get(version), [uid, version, base]
+    if row == 9:
+        z, base, size, ways, arithmetic, z2, granularity, restrictions, qtg = cut(b[4:36], 4, 8, 8, 1, 1, 2, 4, 2, 2)
+        ok = (z0 == 0 and z == 0 and z2 == 0 and ways in WAYS and arithmetic <= 1 and granularity <= 6 and restrictions <= 31
+              and n == 0x24 + 4 * WAYS[ways])
+        return ok, [base, size, ways, arithmetic, granularity, restrictions, qtg]
+    if row == 10:
+        z, granularity, c = cut(b[4:8], 2, 1, 1)
+        return z0 == 0 and z == 0 and granularity <= 6 and n == 8 + 8 * c, [granularity, c]
     raise AssertionError(row)
+
+
+def framed(t, tab, p):
+    """type and length of the record at p, by its frame; 25 where there is none"""
+    width, at, wide, least = FRAME[t]
+    typ, size = le(tab[p:p + width]), le(tab[p + at:p + at + wide])
+    if len(tab) - p < least or size < least or p + size > len(tab):
+        raise Stop(25, p)
+    return typ, size
 
 
 def judge(lent, mask):
@@ -435,16 +530,7 @@ def judge(lent, mask):
     starts = {}
     p = FRONT[t]
     while p < n:
-        if t == 2:
-            if n - p < 8:
-                raise Stop(25, p)
-            typ, size, least = le(tab[p:p + 2]), le(tab[p + 4:p + 8]), 8
-        else:
-            if n - p < 2:
-                raise Stop(25, p)
-            typ, size, least = tab[p], tab[p + 1], 2
-        if size < least or p + size > n:
-            raise Stop(25, p)
+        typ, size = framed(t, tab, p)
         b = tab[p:p + size]
         row = row_of(t, rev, typ, b, mask)
         fields = []
@@ -486,11 +572,8 @@ def part(lent, mask, n):
     b = lent[p:p + size]
     if row is None:
         return b
-    if row == 0:
-        return b[20:]
-    if row in (6, 7):
-        return b[32:]
-    return b''
+    start = {0: 20, 6: 32, 7: 32, 9: 36, 10: 8}.get(row)
+    return b'' if start is None else b[start:]
 
 
 # ---------------------------------------------------------------- reading out
@@ -549,6 +632,14 @@ def out(lent):
             o.append(bytes([53]) + by(f[0], 4) + by(f[1], 8) + by(f[2], 4))
             for i in range(f[3]):
                 o.append(bytes([54]) + b[32 + 2 * i:34 + 2 * i])
+        elif row == 8:
+            o.append(bytes([64]) + by(f[0], 4) + bytes([f[1]]) + by(f[2], 8))
+        elif row == 9:
+            o.append(bytes([65]) + by(f[0], 8) + by(f[1], 8) + bytes(f[2:6]) + by(f[6], 2))
+            o += [bytes([66]) + b[q:q + 4] for q in range(36, size, 4)]
+        elif row == 10:
+            o.append(bytes([67, f[0]]))
+            o += [bytes([68]) + b[q:q + 8] for q in range(8, size, 8)]
     return b''.join(o)
 
 
@@ -595,6 +686,11 @@ WORDS = {
     52: ('cell', 'initiator 1, target 1, value 2'),
     53: ('side cache', 'domain 4, size 8, attributes 4'),
     54: ('SMBIOS handle', 'handle 2'),
+    64: ('CXL host bridge', 'uid 4, version 1, base 8'),
+    65: ('CXL window', 'base 8, size 8, ways 1, arithmetic 1, granularity 1, restrictions 1, QTG 2'),
+    66: ('target of a CXL window', 'uid 4'),
+    67: ('XOR maths', 'granularity 1'),
+    68: ('XOR map', 'map 8'),
 }
 
 

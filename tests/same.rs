@@ -1,5 +1,6 @@
 //! A VMM's tables as code for acpi_tables writes them. tests/rust compiles this text twice, over acpi_tables and over
 //! rust/ under that name, and compares what is printed; rust/tests/known.rs builds it too.
+use acpi_tables::cedt::{CxlFixedMemory, InterleaveArithmetic, InterleaveGranularity, InterleaveWays, XorInterleaveMath, CEDT};
 use acpi_tables::hmat::{self, MemoryProximityDomain, MemorySideCache, SystemLocality, HMAT};
 use acpi_tables::pptt::{self, CacheHandle, CacheNodeBuilder, ProcessorHandle, ProcessorNode, PPTT};
 use acpi_tables::srat::{GenericInitiator, Handle, MemoryAffinity, SRAT};
@@ -91,9 +92,42 @@ pub fn attributes() -> Vec<u8> {
     bytes(&table)
 }
 
+/// A window over so many targets.
+fn window(ways: InterleaveWays, targets: u32, arithmetic: InterleaveArithmetic) -> CxlFixedMemory {
+    let size = targets as u64 * (256 << 20);
+    let granularity = InterleaveGranularity::Granularity4kb;
+    let mut window = CxlFixedMemory::new(1 << 40, size, arithmetic, granularity, ways, 0x201).volatile();
+    for uid in 1..=targets {
+        window.add_target((0x10203 * uid).to_le_bytes());
+    }
+    window
+}
+
+/// Windows and maths: host bridges and windows of type 3 memory differ (docs/DIFFERENCES.md).
+pub fn windows() -> Vec<u8> {
+    let mut cedt = CEDT::new(OEM, TABLE, 7);
+    let modulo = InterleaveArithmetic::Modulo;
+    cedt.add_fixed_memory(window(InterleaveWays::Ways1, 1, modulo).cxl_type_2_memory());
+    cedt.add_fixed_memory(window(InterleaveWays::Ways2, 2, modulo).persistent());
+    cedt.add_fixed_memory(window(InterleaveWays::Ways4, 4, modulo).fixed_configuration());
+    for (ways, targets) in [(InterleaveWays::Ways8, 8), (InterleaveWays::Ways16, 16)] {
+        cedt.add_fixed_memory(window(ways, targets, InterleaveArithmetic::ModuloXor));
+    }
+    for (ways, targets) in [(InterleaveWays::Ways3, 3), (InterleaveWays::Ways6, 6), (InterleaveWays::Ways12, 12)] {
+        cedt.add_fixed_memory(window(ways, targets, modulo));
+    }
+    let mut maths = XorInterleaveMath::new(InterleaveGranularity::Granularity4kb);
+    for bit in 12..16 {
+        maths.add_xormap(0x41 << bit);
+    }
+    cedt.add_xor_interleave_math(maths);
+    cedt.add_xor_interleave_math(XorInterleaveMath::new(InterleaveGranularity::Granularity16kb));
+    bytes(&cedt)
+}
+
 #[allow(dead_code)]
 fn main() {
-    for (name, table) in [("PPTT", sockets()), ("SRAT", affinities()), ("HMAT", attributes())] {
+    for (name, table) in [("PPTT", sockets()), ("SRAT", affinities()), ("HMAT", attributes()), ("CEDT", windows())] {
         let hex: String = table.iter().map(|byte| format!("{byte:02x}")).collect();
         println!("{name} {hex}");
     }

@@ -23,6 +23,7 @@ impl Refusal {
             8 => "TOO LONG",
             9 | 31 => "NO ROOM",
             10 => "WRONG KIND",
+            11 => "INCOMPLETE",
             20 => "SHORT",
             21 => "BAD SIGN",
             22 => "BAD LENGTH",
@@ -43,7 +44,7 @@ impl fmt::Display for Refusal {
     fn fmt(&self, f: &mut fmt::Formatter<'_>) -> fmt::Result {
         let (number, name, place) = (self.number, self.name(), self.place);
         match number {
-            1..=8 | 10 => write!(f, "{number} {name} at byte {place} of the recipe"),
+            1..=8 | 10 | 11 => write!(f, "{number} {name} at byte {place} of the recipe"),
             9 | 31 => write!(f, "{number} {name}, {place} bytes needed"),
             28 => write!(f, "{number} {name}, the table has {place}"),
             _ => write!(f, "{number} {name} at byte {place} of the table"),
@@ -63,8 +64,8 @@ pub struct Record<'a> {
     pub place: usize,
     pub length: usize,
     pub node: Node,
-    /// The list inside the record (a processor's resources, a matrix's values and cells, a side cache's handles), an unknown
-    /// record whole, else empty.
+    /// The list inside the record (a processor's resources, a matrix's values and cells, a side cache's handles, a window's
+    /// targets, the maps of XOR maths), an unknown record whole, else empty.
     pub part: &'a [u8],
 }
 
@@ -121,6 +122,25 @@ pub enum Node {
         attributes: u32,
         smbios_handles: u16,
     },
+    Bridge {
+        host_bridge_uid: u32,
+        cxl_version: u32,
+        port_base: u64,
+    },
+    Window {
+        base_addr: u64,
+        size: u64,
+        /// The code; [`crate::cedt::InterleaveWays`] has how many ways each is.
+        interleave_ways: u8,
+        interleave_arithmetic: u8,
+        interleave_granularity: u32,
+        window_restrictions: u16,
+        qtg_id: u16,
+    },
+    Maths {
+        granularity: u8,
+        xormaps: u8,
+    },
     /// No known row fits.
     Unknown,
 }
@@ -168,6 +188,17 @@ fn node(row: u64, v: &[u64]) -> Node {
             entry_base_unit: v[5],
         },
         7 => Node::Side { proximity_domain: v[0] as u32, cache_size: v[1], attributes: v[2] as u32, smbios_handles: v[3] as u16 },
+        8 => Node::Bridge { host_bridge_uid: v[0] as u32, cxl_version: v[1] as u32, port_base: v[2] },
+        9 => Node::Window {
+            base_addr: v[0],
+            size: v[1],
+            interleave_ways: v[2] as u8,
+            interleave_arithmetic: v[3] as u8,
+            interleave_granularity: v[4] as u32,
+            window_restrictions: v[5] as u16,
+            qtg_id: v[6] as u16,
+        },
+        10 => Node::Maths { granularity: v[0] as u8, xormaps: v[1] as u8 },
         _ => Node::Unknown,
     }
 }

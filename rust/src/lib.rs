@@ -1,14 +1,15 @@
-//! ACPI PPTT, SRAT and HMAT tables through a proved library: [`build`] the table of a recipe, [`read`] its records back,
-//! [`read_out`] its recipe. The calls answer what the contracts of crate `acpi` say, for every input.
+//! ACPI PPTT, SRAT, HMAT and CEDT tables through a proved library: [`build`] the table of a recipe, [`read`] its records
+//! back, [`read_out`] its recipe. The calls answer what the contracts of crate `acpi` say, for every input.
 //!
-//! The modules [`pptt`], [`srat`] and [`hmat`] have the names of crate acpi_tables 0.2.1: they write down the calls as a
-//! recipe, and the table is built from it. What acpi_tables would build otherwise stands in docs/DIFFERENCES.md.
+//! The modules [`pptt`], [`srat`], [`hmat`] and [`cedt`] have the names of crate acpi_tables 0.2.1: they write down the calls
+//! as a recipe, and the table is built from it. What acpi_tables would build otherwise stands in docs/DIFFERENCES.md.
 #![no_std]
 
 extern crate alloc;
 
 mod answers;
 mod calls;
+pub mod cedt;
 pub mod hmat;
 pub mod pptt;
 mod recipe;
@@ -17,7 +18,7 @@ pub mod srat;
 pub use answers::{Node, Record, Refusal};
 pub use calls::{accept, build, check, read, read_out, records, Records, EVERY, LIMIT};
 
-/// The creator fields that the tables of [`pptt`], [`srat`] and [`hmat`] have, as acpi_tables has them.
+/// The creator fields that the tables of [`pptt`], [`srat`], [`hmat`] and [`cedt`] have, as acpi_tables has them.
 pub const CREATOR_ID: [u8; 4] = *b"RVAT";
 pub const CREATOR_REVISION: [u8; 4] = [0, 0, 0, 1];
 
@@ -54,7 +55,7 @@ impl AmlSink for alloc::vec::Vec<u8> {
     }
 }
 
-/// What has a table: [`pptt::PPTT`], [`srat::SRAT`] and [`hmat::HMAT`]. Nodes alone have no bytes here.
+/// What has a table: [`pptt::PPTT`], [`srat::SRAT`], [`hmat::HMAT`] and [`cedt::CEDT`]. Nodes alone have no bytes here.
 pub trait Aml {
     /// Gives the table to the sink. Panics with the refusal's text where the recipe is refused; `try_table` answers it instead.
     fn to_aml_bytes(&self, sink: &mut dyn AmlSink);

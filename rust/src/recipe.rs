@@ -7,7 +7,7 @@ use alloc::{vec, vec::Vec};
 pub(crate) struct Recipe(Vec<u8>);
 
 impl Recipe {
-    /// A head; `table` is 0 PPTT, 1 SRAT, 2 HMAT.
+    /// A head; `table` is 0 PPTT, 1 SRAT, 2 HMAT, 3 CEDT.
     pub(crate) fn new(table: u8, oem_id: [u8; 6], oem_table_id: [u8; 8], oem_revision: u32) -> Self {
         let mut bytes = vec![1, table];
         bytes.vec(&oem_id);

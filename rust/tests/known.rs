@@ -1,6 +1,7 @@
 //! The crate's tables held against bytes that are written down here field by field, and the calls on document 01's cases.
 extern crate ispalmutzu as acpi_tables;
 
+use acpi_tables::cedt::{self, CxlFixedMemory, CxlHostBridge, CxlVersion, InterleaveWays, XorInterleaveMath, CEDT};
 use acpi_tables::hmat::{self, MemoryProximityDomain, MemorySideCache, SystemLocality, HMAT};
 use acpi_tables::pptt::{self, CacheNodeBuilder, ProcessorNode, PPTT};
 use acpi_tables::srat::{GenericInitiator, Handle, MemoryAffinity, RintcAffinity, SRAT};
@@ -120,9 +121,97 @@ fn attributes() {
     assert_eq!(bytes(&table_of), expected);
 }
 
+fn new_cedt() -> CEDT {
+    CEDT::new(*b"VMMOEM", *b"VMMTABLE", 7)
+}
+
+/// A window with so many targets, whatever its ways ask for.
+fn window(ways: InterleaveWays, targets: u32) -> CxlFixedMemory {
+    let (xor, granularity) = (cedt::InterleaveArithmetic::ModuloXor, cedt::InterleaveGranularity::Granularity16kb);
+    let mut window = CxlFixedMemory::new(0x10_2000_0000, 0x3000_0000, xor, granularity, ways, 0x102);
+    for uid in 6..6 + targets {
+        window.add_target(uid.to_le_bytes());
+    }
+    window
+}
+
+fn maths(maps: u64) -> XorInterleaveMath {
+    let mut maths = XorInterleaveMath::new(cedt::InterleaveGranularity::Granularity512b);
+    for map in 0..maps {
+        maths.add_xormap(0x8182 * (map + 1));
+    }
+    maths
+}
+
+/// Two bridges, a window over three targets, maths with two maps.
+fn bridges_and_window() -> CEDT {
+    let mut table = new_cedt();
+    table.add_host_bridge(CxlHostBridge::new(6, CxlVersion::Cxl1_1, 0xd000_0000));
+    table.add_host_bridge(CxlHostBridge::new(7, CxlVersion::Cxl2, 0xd001_0000));
+    table.add_fixed_memory(window(InterleaveWays::Ways3, 3).cxl_type_3_memory().volatile());
+    table.add_xor_interleave_math(maths(2));
+    table
+}
+
+#[test]
+fn bridges_windows_and_maths() {
+    let expected = table(
+        "CEDT",
+        1,
+        "00 00 2000 06000000 00000000 00000000 000000d000000000 0020000000000000
+         00 00 2000 07000000 01000000 00000000 000001d000000000 0000010000000000
+         01 00 3000 00000000 0000002010000000 0000003000000000 08 01 0000 06000000 0600 0201 06000000 07000000 08000000
+         02 00 1800 0000 01 02 8281000000000000 0403010000000000",
+    );
+    assert_eq!(bytes(&bridges_and_window()), expected);
+}
+
+#[test]
+fn a_window_has_as_many_targets_as_ways() {
+    use InterleaveWays::*;
+    let tried = [(Ways1, 1), (Ways2, 2), (Ways4, 4), (Ways8, 8), (Ways16, 16), (Ways3, 3), (Ways6, 6), (Ways12, 12)];
+    for (ways, targets) in tried {
+        let judged = |targets| {
+            let mut table = new_cedt();
+            table.add_fixed_memory(window(ways, targets));
+            table.try_table().map(|bytes| bytes.len())
+        };
+        assert_eq!(judged(targets), Ok(36 + 36 + 4 * targets as usize));
+        assert_eq!(judged(targets - 1), Err(Refusal { number: 11, place: 28 }));
+        assert_eq!(judged(targets + 1), Err(Refusal { number: 7, place: 28 + 23 + 5 * targets as usize }));
+    }
+}
+
+#[test]
+fn maths_have_up_to_255_maps() {
+    let judged = |maps| {
+        let mut table = new_cedt();
+        table.add_xor_interleave_math(maths(maps));
+        table.try_table().map(|bytes| bytes.len())
+    };
+    assert_eq!(judged(255), Ok(36 + 8 + 8 * 255));
+    assert_eq!(judged(256), Err(Refusal { number: 7, place: 28 + 2 + 9 * 255 }));
+}
+
+#[test]
+fn restrictions_of_a_window() {
+    let restrict = [
+        CxlFixedMemory::cxl_type_2_memory,
+        CxlFixedMemory::cxl_type_3_memory,
+        CxlFixedMemory::volatile,
+        CxlFixedMemory::persistent,
+        CxlFixedMemory::fixed_configuration,
+    ];
+    for (bit, set) in restrict.into_iter().enumerate() {
+        let mut table = new_cedt();
+        table.add_fixed_memory(set(window(InterleaveWays::Ways1, 1)));
+        assert_eq!(table.try_table().unwrap()[36 + 32..][..2], [1 << bit, 0]);
+    }
+}
+
 #[test]
 fn what_is_read_out_builds_the_same_table() {
-    for table in [same::sockets(), same::affinities(), same::attributes()] {
+    for table in [same::sockets(), same::affinities(), same::attributes(), same::windows()] {
         let mut recipe = vec![0; 4096];
         let length = read_out(&table, &mut recipe).unwrap();
         let mut again = vec![0; table.len()];
@@ -197,6 +286,24 @@ fn fields_of_every_row() {
     let cache =
         Node::Cache { flags: 0xd7, next_level: 36, size: 1, set_count: 2, associativity: 3, attributes: 4, line_size: 4, id: 5 };
     assert_eq!(read(&table, EVERY, 1).unwrap().node, cache);
+
+    let table = bridges_and_window().try_table().unwrap();
+    let all: Vec<_> = records(&table, EVERY).unwrap().collect();
+    let bridge = |host_bridge_uid, cxl_version, port_base| Node::Bridge { host_bridge_uid, cxl_version, port_base };
+    let window = Node::Window {
+        base_addr: 0x10_2000_0000,
+        size: 0x3000_0000,
+        interleave_ways: 8,
+        interleave_arithmetic: 1,
+        interleave_granularity: 6,
+        window_restrictions: 6,
+        qtg_id: 0x102,
+    };
+    let maths = Node::Maths { granularity: 1, xormaps: 2 };
+    let nodes: Vec<_> = all.iter().map(|record| record.node).collect();
+    assert_eq!(nodes, [bridge(6, 0, 0xd000_0000), bridge(7, 1, 0xd001_0000), window, maths]);
+    let parts: Vec<_> = all.iter().map(|record| record.part).collect();
+    assert_eq!(parts, [&table[..0], &[], &table[100 + 36..148], &table[148 + 8..]]);
 }
 
 #[test]
@@ -211,6 +318,11 @@ fn what_is_refused() {
     let refusal = pptt.try_table().unwrap_err();
     assert_eq!((refusal.number, refusal.name(), refusal.place), (7, "FULL NODE", 28 + 22 + 13 + 58 * 5));
     assert_eq!(refusal.to_string(), "7 FULL NODE at byte 353 of the recipe");
+    let mut cedt = new_cedt();
+    cedt.add_xor_interleave_math(maths(0));
+    cedt.add_fixed_memory(window(InterleaveWays::Ways2, 1));
+    cedt.add_host_bridge(CxlHostBridge::new(6, CxlVersion::Cxl2, 0));
+    assert_eq!(cedt.try_table().unwrap_err().to_string(), "11 INCOMPLETE at byte 30 of the recipe");
     assert_eq!(Refusal { number: 10, place: 50 }.to_string(), "10 WRONG KIND at byte 50 of the recipe");
     assert_eq!(Refusal { number: 27, place: 36 }.to_string(), "27 BAD REF at byte 36 of the table");
     assert_eq!(Refusal { number: 9, place: 88 }.to_string(), "9 NO ROOM, 88 bytes needed");
@@ -222,7 +334,7 @@ fn what_is_refused() {
 #[test]
 fn which_byte() {
     for (at, byte, text) in [
-        (1, 3, "5 BAD FIELD at byte 1 of the recipe"),
+        (1, 4, "5 BAD FIELD at byte 1 of the recipe"),
         (35, 1, "5 BAD FIELD at byte 34 of the recipe"),
         (64, 0, "6 FORWARD at byte 63 of the recipe"),
         (64, 2, "6 FORWARD at byte 63 of the recipe"),

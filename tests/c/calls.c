@@ -1,4 +1,4 @@
-/* Builds case C3, reads it and reads it out through the library; refusals too. Exit status 1 at the first difference. */
+/* Builds case C3 and a CEDT, reads them and reads them out through the library; refusals too. Exit status 1 at the first difference. */
 #include "acpi.h"
 #include <stdio.h>
 #include <stdlib.h>
@@ -48,7 +48,7 @@ static void refuses(const char *what, size_t at, uint8_t byte, uint32_t number, 
 
 static void faults(void)
 {
-    refuses("table code", 1, 3, ACPI_BAD_FIELD, 1);
+    refuses("table code", 1, 4, ACPI_BAD_FIELD, 1);
     refuses("a size that is not given", 35, 1, ACPI_BAD_FIELD, 34);
     refuses("a resource that is the processor itself", 64, 2, ACPI_FORWARD, 63);
     refuses("no resource", 64, 0, ACPI_FORWARD, 63);
@@ -105,6 +105,77 @@ static void reads_out(const uint8_t *table)
     expect("recipe", memcmp(out, recipe, sizeof recipe), 0);
 }
 
+/* a CEDT: a head of zeros; a bridge; a window of two ways; its two targets; maths; its map */
+enum { BRIDGE = 28, WINDOW = 42, WAYS = WINDOW + 17, SECOND_TARGET = 70, MATHS = 75, CEDT = 86 };
+static const uint8_t cedt[CEDT] = {
+    [0] = 1, [1] = 3,
+    [BRIDGE] = 64, [29] = 6, [33] = 1, [37] = 0xd0,
+    [WINDOW] = 65, [47] = 1, [54] = 0x20, [WAYS] = 1, [60] = 1, [61] = 2, [62] = 6, [63] = 5,
+    [65] = 66, [66] = 6, [SECOND_TARGET] = 66, [71] = 7,
+    [MATHS] = 67, [76] = 2, [77] = 68, [79] = 0x41,
+};
+
+/* what a record comes back as */
+struct shown {
+    uint64_t row, place, length, part_length, count, fields[7];
+};
+
+static const struct shown shown[3] = {
+    { ACPI_ROW_BRIDGE, 36, 32, 0, 3, { 6, 1, 0xd0000000 } },
+    { ACPI_ROW_WINDOW, 68, 44, 8, 7, { 0x100000000, 0x20000000, 1, 1, 2, 6, 5 } },
+    { ACPI_ROW_MATHS, 112, 16, 8, 2, { 2, 1 } },
+};
+
+static void shows(const uint8_t *table, size_t n)
+{
+    size_t place = 99;
+    uint64_t r[ACPI_ANSWER];
+    expect("read", acpi_read(table, 128, ACPI_EVERY, n, r, ACPI_ANSWER, &place), 0);
+    expect("records", place, 3);
+    expect("row", r[ACPI_ROW], shown[n].row);
+    expect("place", r[ACPI_PLACE], shown[n].place);
+    expect("length", r[ACPI_LENGTH], shown[n].length);
+    expect("part", r[ACPI_PART_PLACE], shown[n].place + shown[n].length - shown[n].part_length);
+    expect("part's length", r[ACPI_PART_LENGTH], shown[n].part_length);
+    for (size_t i = 0; i < shown[n].count; i++)
+        expect("field", r[ACPI_FIELDS + i], shown[n].fields[i]);
+}
+
+static void windows(void)
+{
+    size_t place = 99;
+    uint8_t table[128], out[CEDT];
+    expect("build", acpi_build(cedt, CEDT, table, sizeof table, &place), 0);
+    expect("length", place, sizeof table);
+    expect("signature", memcmp(table, "CEDT", 4), 0);
+    expect("registers of the bridge", table[62], 1);
+    expect("second target", table[108], 7);
+    for (size_t n = 0; n < 3; n++)
+        shows(table, n);
+    expect("read out", acpi_read_out(table, sizeof table, out, sizeof out, &place), 0);
+    expect("length", place, CEDT);
+    expect("recipe", memcmp(out, cedt, CEDT), 0);
+}
+
+/* a window with other than two targets */
+static void ways(void)
+{
+    size_t place = 99;
+    uint8_t changed[CEDT];
+    expect("one target at the end", acpi_check(cedt, SECOND_TARGET, &place), ACPI_INCOMPLETE);
+    expect("the window", place, WINDOW);
+    expect("a second one that is cut", acpi_check(cedt, MATHS - 1, &place), ACPI_CUT);
+    expect("the target", place, SECOND_TARGET);
+    memcpy(changed, cedt, CEDT);
+    changed[SECOND_TARGET] = 200;
+    expect("one target before a bad kind", acpi_check(changed, CEDT, &place), ACPI_INCOMPLETE);
+    expect("the window", place, WINDOW);
+    memcpy(changed, cedt, CEDT);
+    changed[WAYS] = 0;
+    expect("two targets for one way", acpi_check(changed, CEDT, &place), ACPI_FULL_NODE);
+    expect("the target", place, SECOND_TARGET);
+}
+
 int main(void)
 {
     uint8_t table[100];
@@ -114,6 +185,8 @@ int main(void)
     reads(table);
     lists(table);
     reads_out(table);
+    windows();
+    ways();
     puts("built, read, listed and read out");
     return 0;
 }

@@ -2,12 +2,12 @@
 use mathlib.Core.Path.{refl}
 use Rattle.format.specs.Bytes.{le, value, part, over, sum, same}
 use Rattle.format.specs.Layout.{width, layWith, fieldsWith, fixedOk, refsGood}
-use Rattle.format.specs.Form.{layout, cacheAttributes, matrixFlags, sideAttributes, ranges}
+use Rattle.format.specs.Form.{layout, registers, ways, cacheAttributes, matrixFlags, sideAttributes, ranges}
 use Rattle.format.specs.Row.{column, matches, rowOf, formIn}
 use Rattle.format.specs.Kind.{kindOf, body}
 use Rattle.format.specs.Node.{bytes, nodeAt, sizes, starts, atPlace, isOrdinal, atOrdinal, placeOf, ordinalOf}
 use Rattle.format.specs.Field.{firstBad}
-use Rattle.format.specs.Recipe.{cutAs, cut, resource, handle, setting, unset, step, fault, faultAt, run, headed, meaning}
+use Rattle.format.specs.Recipe.{cutAs, cut, joined, setting, unset, step, fault, lacking, faultAt, run, headed, meaning}
 use Rattle.format.specs.Build.{records, header, summed, tableFrom, build, table, written, built}
 use Rattle.format.specs.Normal.{each, eachSet, settings, calls, callsOf, recipeOf, normal}
 use Rattle.format.specs.Read.{headFault, judgeHead, framed, frames, sound, recordFault, walk, walked, accept, shown, listIn, fieldsOf, partOf, read, readPart}
@@ -21,7 +21,7 @@ use Rattle.answers.specs.Lines.{refusal, success, told, carriedOut, cont
 use Rattle.answers.specs.Examples.{Examples}
 
 pub examples : Examples
-unfolding le value part over sum same width layWith fieldsWith fixedOk refsGood layout cacheAttributes matrixFlags sideAttributes ranges column matches rowOf formIn kindOf body bytes nodeAt sizes starts atPlace isOrdinal atOrdinal placeOf ordinalOf cutAs cut resource handle setting unset step fault firstBad faultAt run headed meaning records header summed tableFrom build table written built each eachSet settings calls callsOf recipeOf normal headFault judgeHead framed frames sound recordFault walk walked accept shown listIn fieldsOf partOf read readPart nodesFrom outOf meaningOf readOut recipe outWritten digits refusedWords shown.glyph shown.pairs shown.hexed shown.others shown.listed spaceIn callIn stepTo numberFrom numberIn valueOf allHex pairOf pairs dataIn allAre refusal success told carriedOut content ending found seen writing asking answerTo
+unfolding le value part over sum same width layWith fieldsWith fixedOk refsGood layout registers ways cacheAttributes matrixFlags sideAttributes ranges column matches rowOf formIn kindOf body bytes nodeAt sizes starts atPlace isOrdinal atOrdinal placeOf ordinalOf cutAs cut joined setting unset step fault firstBad faultAt lacking run headed meaning records header summed tableFrom build table written built each eachSet settings calls callsOf recipeOf normal headFault judgeHead framed frames sound recordFault walk walked accept shown listIn fieldsOf partOf read readPart nodesFrom outOf meaningOf readOut recipe outWritten digits refusedWords shown.glyph shown.pairs shown.hexed shown.others shown.listed spaceIn callIn stepTo numberFrom numberIn valueOf allHex pairOf pairs dataIn allAre refusal success told carriedOut content ending found seen writing asking answerTo
 examples =
     record {
       ok-build = refl;
@@ -36,6 +36,7 @@ examples =
       refused-6 = refl;
       refused-10 = refl;
       refused-7 = refl;
+      refused-11 = refl;
       refused-8 = refl;
       refused-9 = refl;
       refused-20 = refl;
@@ -59,6 +60,9 @@ examples =
       row-5 = refl;
       row-6 = refl;
       row-7 = refl;
+      row-8 = refl;
+      row-9 = refl;
+      row-10 = refl;
       row-unknown = refl;
       mask-over = refl;
       no-data = refl;

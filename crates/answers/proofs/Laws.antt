@@ -11,7 +11,7 @@ use lib.ListN.{length, take, drop, replicate, length-replicate, length-append}
 use lib.Seq.{take-at}
 use borrow.Author.Tests.{leb-true, ltb-false}
 use Rattle.format.specs.Bytes.{pick, same, over}
-use Rattle.format.specs.Row.{Row, processors, caches, memories, initiators, rintcs, domains, matrices, sides}
+use Rattle.format.specs.Row.{Row, processors, caches, memories, initiators, rintcs, domains, matrices, sides, bridges, windows, xors}
 use Rattle.format.specs.Build.{build, built}
 use Rattle.format.specs.Out.{readOut, outWritten}
 use Rattle.format.specs.Listing.{digits, spaced}
@@ -129,6 +129,7 @@ told-build (made.Refused fault.Forward p) out = refl
 told-build (made.Refused fault.WrongKind p) out = refl
 told-build (made.Refused fault.FullNode p) out = refl
 told-build (made.Refused fault.TooLong p) out = refl
+told-build (made.Refused fault.Incomplete p) out = refl
 
 told-out : (r : ReadOut) (buffer : List ℕ) → toldBy (reading.numberOf (reading.shown r)) (reading.placeOf (reading.shown r)) buffer ≡ told (reading.shown r) buffer
 unfolding told toldBy
@@ -171,6 +172,9 @@ content-as (some rintcs) vs = refl
 content-as (some domains) vs = refl
 content-as (some matrices) vs = refl
 content-as (some sides) vs = refl
+content-as (some bridges) vs = refl
+content-as (some windows) vs = refl
+content-as (some xors) vs = refl
 
 handle-few : (h : Handle) → length (handleValues h) ≤ 4
 handle-few (handle.Acpi h u) = omega arith
@@ -186,4 +190,7 @@ few (node.Rintc n) = omega arith
 few (node.Domain n) = omega arith
 few (node.Matrix n) = omega arith
 few (node.Side n) = omega arith
+few (node.Bridge n) = omega arith
+few (node.Window n) = omega arith
+few (node.Xor n) = omega arith
 few node.Unknown = omega arith

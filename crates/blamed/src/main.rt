@@ -31,7 +31,7 @@ fn pptt() {
     tell_all(b"PPTT, cut\n", &r[..35]);
     r[50] = 32;
     tell_all(b"PPTT, a kind of SRAT\n", &r);
-    r[1] = 3;
+    r[1] = 4;
     tell_all(b"no table\n", &r);
     r[0] = 0;
     tell_all(b"no head\n", &r);
@@ -62,8 +62,21 @@ fn hmat() {
     tell_all(b"HMAT\n", &r);
 }
 
+fn cedt() {
+    let mut r = [0u8; 81];
+    r[0] = 1;
+    r[1] = 3;
+    r[28] = 64;
+    r[42] = 65;
+    r[65] = 66;
+    r[70] = 67;
+    r[72] = 68;
+    tell_all(b"CEDT\n", &r);
+}
+
 fn main() {
     pptt();
     srat();
     hmat();
+    cedt();
 }

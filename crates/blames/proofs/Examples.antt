@@ -16,4 +16,5 @@ examples =
       inside-a-field = refl;
       table-code = refl;
       transfer-size = refl;
+      ways = refl;
     }

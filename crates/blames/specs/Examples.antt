@@ -18,9 +18,14 @@ caches = headed 0 ++ (18 ∷ replicate 21 0)
 abbrev matrices : List ℕ
 matrices = headed 2 ++ (48 ∷ replicate 8 0 ++ (49 ∷ replicate 13 0))
 
+-- a CEDT's recipe: a host bridge and a window
+abbrev windows : List ℕ
+windows = headed 3 ++ (64 ∷ replicate 13 0 ++ (65 ∷ replicate 22 0))
+
 pub record Examples : Type 0 where
   pub size : fieldWords caches 34 ≡ text "size of the cache at 28"
   pub kind-byte : fieldWords caches 28 ≡ []
   pub inside-a-field : fieldWords caches 35 ≡ []
   pub table-code : fieldWords (headed 7) 1 ≡ text "table code of the head at 0"
   pub transfer-size : fieldWords matrices 40 ≡ text "transfer size of the matrix at 37"
+  pub ways : fieldWords windows 59 ≡ text "ways of the CXL window at 42"

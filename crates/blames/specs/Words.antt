@@ -8,7 +8,7 @@ use lib.Dec.{eqb, leb, ltb}
 use Rattle.format.specs.Bytes.{pick, at}
 use Rattle.format.specs.Layout.{Item, wide, width}
 use Rattle.format.specs.Table.{Table}
-use Rattle.format.specs.Kind.{Kind, Processor, Resource, Cache, Memory, Acpi, Pci, Rintc, Domain, Matrix, Initiator, Target, Cell, Side, Handle, body}
+use Rattle.format.specs.Kind.{Kind, Processor, Resource, Cache, Memory, Acpi, Pci, Rintc, Domain, Matrix, Initiator, Target, Cell, Side, Handle, Bridge, Window, WindowTarget, Xor, Map, body}
 use Rattle.format.specs.Recipe.{Calls, done, badKind, cutOff, called, cut, tableOf}
 use Rattle.format.specs.Listing.{spaced}
 use Rattle.text.specs.Text.{text}
@@ -31,6 +31,11 @@ recordName Target = text "target value"
 recordName Cell = text "cell"
 recordName Side = text "side cache"
 recordName Handle = text "SMBIOS handle"
+recordName Bridge = text "CXL host bridge"
+recordName Window = text "CXL window"
+recordName WindowTarget = text "target of a CXL window"
+recordName Xor = text "XOR maths"
+recordName Map = text "XOR map"
 
 -- what the fields of a body are called, in its order
 unfoldable pub fieldNames : Kind → List (List ℕ)
@@ -48,6 +53,11 @@ fieldNames Target = text "index" ∷ text "value" ∷ []
 fieldNames Cell = text "initiator" ∷ text "target" ∷ text "value" ∷ []
 fieldNames Side = text "domain" ∷ text "size" ∷ text "attributes" ∷ []
 fieldNames Handle = text "handle" ∷ []
+fieldNames Bridge = text "uid" ∷ text "version" ∷ text "base" ∷ []
+fieldNames Window = text "base" ∷ text "size" ∷ text "ways" ∷ text "arithmetic" ∷ text "granularity" ∷ text "restrictions" ∷ text "QTG" ∷ []
+fieldNames WindowTarget = text "uid" ∷ []
+fieldNames Xor = text "granularity" ∷ []
+fieldNames Map = text "map" ∷ []
 
 -- the name of the field that begins at a place, nothing where none does; p: where the first one begins
 unfoldable pub nameAt : ℕ → List Item → List (List ℕ) → ℕ → List ℕ

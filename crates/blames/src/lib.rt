@@ -1,6 +1,7 @@
 // A place of a recipe in words, for people: the field that begins there, its record, and where that begins.
 // Where the fields stand in a body is asked of the node types; what they are called stands here.
 ghost use mathlib.Core.Path.{_≡_};
+ghost use mathlib.Core.List.{[]};
 ghost use lib.ListN.{drop};
 ghost use mathlib.Core.Option.{some};
 ghost use Rattle.format.specs.Kind as format;
@@ -10,6 +11,11 @@ ghost use Rattle.recipe.specs.Kinds.{meantKind};
 ghost use Rattle.text.specs.Text.{laid};
 ghost use Rattle.blames.specs.Words.{fieldOf, holder, headWords, recordWords, fieldWords};
 ghost use Rattle.blames.specs.Holders.{heldBy};
+use cedt::CxlFixedMemory;
+use cedt::CxlHostBridge;
+use cedt::CxlTarget;
+use cedt::XorInterleaveMath;
+use cedt::XorMap;
 use header::Table;
 use header::TableHeader;
 use hmat::Cell;
@@ -27,6 +33,17 @@ use srat::GenericInitiator;
 use srat::MemoryAffinity;
 use srat::RintcAffinity;
 
+// Lays nothing; how far the buffer is filled.
+fn nothing(out: &[u8], n: usize) -> usize
+    ensures { λ r. ⌜ (r, now (out .entry)) ≡ laid (now (out .entry)) n [] ⌝ }
+{
+    let len = out.len();
+    if len <= n {
+        return len;
+    }
+    n
+}
+
 // ---- the fields of each kind, by their places in a body; nothing where none begins
 
 fn processor(at: usize, out: &mut [u8], n: usize) -> usize
@@ -36,7 +53,7 @@ fn processor(at: usize, out: &mut [u8], n: usize) -> usize
         ProcessorNode::FLAGS_AT => text::bytes(out, n, b"flags of the processor"),
         ProcessorNode::PARENT_AT => text::bytes(out, n, b"parent of the processor"),
         ProcessorNode::ID_AT => text::bytes(out, n, b"processor ID of the processor"),
-        _ => text::bytes(out, n, b""),
+        _ => nothing(out, n),
     }
 }
 
@@ -45,7 +62,7 @@ fn resource(at: usize, out: &mut [u8], n: usize) -> usize
 {
     match at {
         Resource::CACHE_AT => text::bytes(out, n, b"cache of the resource"),
-        _ => text::bytes(out, n, b""),
+        _ => nothing(out, n),
     }
 }
 
@@ -61,7 +78,7 @@ fn cache(at: usize, out: &mut [u8], n: usize) -> usize
         CacheNode::ATTRIBUTES_AT => text::bytes(out, n, b"attributes of the cache"),
         CacheNode::LINE_SIZE_AT => text::bytes(out, n, b"line size of the cache"),
         CacheNode::ID_AT => text::bytes(out, n, b"ID of the cache"),
-        _ => text::bytes(out, n, b""),
+        _ => nothing(out, n),
     }
 }
 
@@ -73,7 +90,7 @@ fn memory(at: usize, out: &mut [u8], n: usize) -> usize
         MemoryAffinity::BASE_AT => text::bytes(out, n, b"base of the memory affinity"),
         MemoryAffinity::LENGTH_AT => text::bytes(out, n, b"length of the memory affinity"),
         MemoryAffinity::FLAGS_AT => text::bytes(out, n, b"flags of the memory affinity"),
-        _ => text::bytes(out, n, b""),
+        _ => nothing(out, n),
     }
 }
 
@@ -85,7 +102,7 @@ fn acpi(at: usize, out: &mut [u8], n: usize) -> usize
         GenericInitiator::HID_AT => text::bytes(out, n, b"hid of the generic initiator"),
         GenericInitiator::UID_AT => text::bytes(out, n, b"uid of the generic initiator"),
         GenericInitiator::ACPI_FLAGS_AT => text::bytes(out, n, b"flags of the generic initiator"),
-        _ => text::bytes(out, n, b""),
+        _ => nothing(out, n),
     }
 }
 
@@ -99,7 +116,7 @@ fn pci(at: usize, out: &mut [u8], n: usize) -> usize
         GenericInitiator::DEVICE_AT => text::bytes(out, n, b"device of the generic initiator"),
         GenericInitiator::FUNCTION_AT => text::bytes(out, n, b"function of the generic initiator"),
         GenericInitiator::PCI_FLAGS_AT => text::bytes(out, n, b"flags of the generic initiator"),
-        _ => text::bytes(out, n, b""),
+        _ => nothing(out, n),
     }
 }
 
@@ -114,7 +131,7 @@ fn rintc(at: usize, out: &mut [u8], n: usize) -> usize
             n,
             b"clock domain of the RINTC affinity",
         ),
-        _ => text::bytes(out, n, b""),
+        _ => nothing(out, n),
     }
 }
 
@@ -128,7 +145,7 @@ fn domain(at: usize, out: &mut [u8], n: usize) -> usize
             b"initiator of the proximity domain",
         ),
         MemoryProximityDomain::MEMORY_AT => text::bytes(out, n, b"memory of the proximity domain"),
-        _ => text::bytes(out, n, b""),
+        _ => nothing(out, n),
     }
 }
 
@@ -142,7 +159,7 @@ fn matrix(at: usize, out: &mut [u8], n: usize) -> usize
         SystemLocality::BASE_UNIT_AT => text::bytes(out, n, b"base unit of the matrix"),
         SystemLocality::INITIATORS_AT => text::bytes(out, n, b"initiators of the matrix"),
         SystemLocality::TARGETS_AT => text::bytes(out, n, b"targets of the matrix"),
-        _ => text::bytes(out, n, b""),
+        _ => nothing(out, n),
     }
 }
 
@@ -152,7 +169,7 @@ fn initiator(at: usize, out: &mut [u8], n: usize) -> usize
     match at {
         Value::INDEX_AT => text::bytes(out, n, b"index of the initiator value"),
         Value::VALUE_AT => text::bytes(out, n, b"value of the initiator value"),
-        _ => text::bytes(out, n, b""),
+        _ => nothing(out, n),
     }
 }
 
@@ -162,7 +179,7 @@ fn target(at: usize, out: &mut [u8], n: usize) -> usize
     match at {
         Value::INDEX_AT => text::bytes(out, n, b"index of the target value"),
         Value::VALUE_AT => text::bytes(out, n, b"value of the target value"),
-        _ => text::bytes(out, n, b""),
+        _ => nothing(out, n),
     }
 }
 
@@ -173,7 +190,7 @@ fn cell(at: usize, out: &mut [u8], n: usize) -> usize
         Cell::INITIATOR_AT => text::bytes(out, n, b"initiator of the cell"),
         Cell::TARGET_AT => text::bytes(out, n, b"target of the cell"),
         Cell::VALUE_AT => text::bytes(out, n, b"value of the cell"),
-        _ => text::bytes(out, n, b""),
+        _ => nothing(out, n),
     }
 }
 
@@ -184,7 +201,7 @@ fn side(at: usize, out: &mut [u8], n: usize) -> usize
         MemorySideCache::DOMAIN_AT => text::bytes(out, n, b"domain of the side cache"),
         MemorySideCache::SIZE_AT => text::bytes(out, n, b"size of the side cache"),
         MemorySideCache::ATTRIBUTES_AT => text::bytes(out, n, b"attributes of the side cache"),
-        _ => text::bytes(out, n, b""),
+        _ => nothing(out, n),
     }
 }
 
@@ -193,7 +210,60 @@ fn handle(at: usize, out: &mut [u8], n: usize) -> usize
 {
     match at {
         SmbiosHandle::HANDLE_AT => text::bytes(out, n, b"handle of the SMBIOS handle"),
-        _ => text::bytes(out, n, b""),
+        _ => nothing(out, n),
+    }
+}
+
+fn bridge(at: usize, out: &mut [u8], n: usize) -> usize
+    ensures { λ r. ⌜ (r, now (out .exit)) ≡ laid (now (out .entry)) n (fieldOf format.Bridge 0 at) ⌝ }
+{
+    match at {
+        CxlHostBridge::UID_AT => text::bytes(out, n, b"uid of the CXL host bridge"),
+        CxlHostBridge::VERSION_AT => text::bytes(out, n, b"version of the CXL host bridge"),
+        CxlHostBridge::BASE_AT => text::bytes(out, n, b"base of the CXL host bridge"),
+        _ => nothing(out, n),
+    }
+}
+
+fn window(at: usize, out: &mut [u8], n: usize) -> usize
+    ensures { λ r. ⌜ (r, now (out .exit)) ≡ laid (now (out .entry)) n (fieldOf format.Window 0 at) ⌝ }
+{
+    match at {
+        CxlFixedMemory::BASE_AT => text::bytes(out, n, b"base of the CXL window"),
+        CxlFixedMemory::SIZE_AT => text::bytes(out, n, b"size of the CXL window"),
+        CxlFixedMemory::WAYS_AT => text::bytes(out, n, b"ways of the CXL window"),
+        CxlFixedMemory::ARITHMETIC_AT => text::bytes(out, n, b"arithmetic of the CXL window"),
+        CxlFixedMemory::GRANULARITY_AT => text::bytes(out, n, b"granularity of the CXL window"),
+        CxlFixedMemory::RESTRICTIONS_AT => text::bytes(out, n, b"restrictions of the CXL window"),
+        CxlFixedMemory::QTG_AT => text::bytes(out, n, b"QTG of the CXL window"),
+        _ => nothing(out, n),
+    }
+}
+
+fn window_target(at: usize, out: &mut [u8], n: usize) -> usize
+    ensures { λ r. ⌜ (r, now (out .exit)) ≡ laid (now (out .entry)) n (fieldOf format.WindowTarget 0 at) ⌝ }
+{
+    match at {
+        CxlTarget::UID_AT => text::bytes(out, n, b"uid of the target of a CXL window"),
+        _ => nothing(out, n),
+    }
+}
+
+fn xor(at: usize, out: &mut [u8], n: usize) -> usize
+    ensures { λ r. ⌜ (r, now (out .exit)) ≡ laid (now (out .entry)) n (fieldOf format.Xor 0 at) ⌝ }
+{
+    match at {
+        XorInterleaveMath::GRANULARITY_AT => text::bytes(out, n, b"granularity of the XOR maths"),
+        _ => nothing(out, n),
+    }
+}
+
+fn map(at: usize, out: &mut [u8], n: usize) -> usize
+    ensures { λ r. ⌜ (r, now (out .exit)) ≡ laid (now (out .entry)) n (fieldOf format.Map 0 at) ⌝ }
+{
+    match at {
+        XorMap::MAP_AT => text::bytes(out, n, b"map of the XOR map"),
+        _ => nothing(out, n),
     }
 }
 
@@ -216,6 +286,11 @@ fn field_of(kind: Kind, at: usize, out: &mut [u8], n: usize) -> usize
         Kind::Cell => cell(at, out, n),
         Kind::Side => side(at, out, n),
         Kind::Handle => handle(at, out, n),
+        Kind::Bridge => bridge(at, out, n),
+        Kind::Window => window(at, out, n),
+        Kind::WindowTarget => window_target(at, out, n),
+        Kind::Xor => xor(at, out, n),
+        Kind::Map => map(at, out, n),
     }
 }
 
@@ -226,7 +301,7 @@ fn in_record(kind: Kind, at: usize, place: usize, out: &mut [u8], n: usize) -> u
     ensures { λ r. ⌜ (r, now (out .exit)) ≡ laid (now (out .entry)) n (recordWords place (some (meantKind kind, at))) ⌝ }
 {
     if place <= at {
-        return text::bytes(out, n, b"");
+        return nothing(out, n);
     }
     let mut m = field_of(kind, place - at - 1, out, n);
     // nothing was laid: no field begins there, or there is no room
@@ -267,7 +342,7 @@ fn behind_head(recipe: &[u8], table: Table, place: usize, out: &mut [u8], n: usi
 {
     match holder(recipe, table, place) {
         Held::By(kind, at) => in_record(kind, at, place, out, n),
-        Held::Nothing => text::bytes(out, n, b""),
+        Held::Nothing => nothing(out, n),
     }
 }
 
@@ -276,7 +351,7 @@ fn in_head(place: usize, out: &mut [u8], n: usize) -> usize
     ensures { λ r. ⌜ (r, now (out .exit)) ≡ laid (now (out .entry)) n (headWords place) ⌝ }
 {
     if place != 1 + TableHeader::CODE_AT {
-        return text::bytes(out, n, b"");
+        return nothing(out, n);
     }
     text::bytes(out, n, b"table code of the head at 0")
 }
@@ -286,10 +361,10 @@ pub fn field(recipe: &[u8], place: usize, out: &mut [u8], n: usize) -> usize
     ensures { λ r. ⌜ (r, now (out .exit)) ≡ laid (now (out .entry)) n (fieldWords (now (recipe .entry)) place) ⌝ }
 {
     if field::get_u8(recipe, 0) != TableHeader::KIND {
-        return text::bytes(out, n, b"");
+        return nothing(out, n);
     }
     if recipe.len() <= place {
-        return text::bytes(out, n, b"");
+        return nothing(out, n);
     }
     if place < recipe::HEAD_LEN {
         return in_head(place, out, n);
@@ -298,6 +373,7 @@ pub fn field(recipe: &[u8], place: usize, out: &mut [u8], n: usize) -> usize
         Table::PPTT_CODE => behind_head(recipe, Table::Pptt, place, out, n),
         Table::SRAT_CODE => behind_head(recipe, Table::Srat, place, out, n),
         Table::HMAT_CODE => behind_head(recipe, Table::Hmat, place, out, n),
-        _ => text::bytes(out, n, b""),
+        Table::CEDT_CODE => behind_head(recipe, Table::Cedt, place, out, n),
+        _ => nothing(out, n),
     }
 }

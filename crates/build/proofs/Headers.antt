@@ -8,7 +8,7 @@ use lib.ListN.{length, take, drop, replicate, length-drop}
 use lib.Seq.{drop-drop}
 use Rattle.format.specs.Bytes.{Bytes, le, value, part, over}
 use Rattle.format.specs.Layout.{lay}
-use Rattle.format.specs.Table.{Table, pptt, srat, hmat, sign, tail, told, front, headOf}
+use Rattle.format.specs.Table.{Table, pptt, srat, hmat, cedt, sign, tail, told, front, headOf}
 use Rattle.format.specs.Build.{header}
 use Rattle.laws.proofs.Bytes.{length-le, le-value, bytes-part, part-add, length-part, length-over, over-none, over-next}
 use Rattle.laws.proofs.Over.{over-within}
@@ -22,6 +22,7 @@ length-sign : (t : Table) → length (sign t) ≡ 4
 length-sign pptt = refl
 length-sign srat = refl
 length-sign hmat = refl
+length-sign cedt = refl
 
 -- the first n bytes of enough
 padded-whole : (n : ℕ) (xs : List ℕ) → n ≤ length xs → padded n xs ≡ take n xs
@@ -73,6 +74,7 @@ unfolding header
 header-any pptt is n m len c = refl
 header-any srat is n m len c = refl
 header-any hmat is n m len c = refl
+header-any cedt is n m len c = refl
 
 -- another length, and another checksum
 header-length : (t : Table) (is rs : List ℕ) (n a b c : ℕ) → over (header (headOf t is) n a c ++ rs) 4 (le 4 b) ≡ header (headOf t is) n b c ++ rs
@@ -80,12 +82,14 @@ unfolding header over le
 header-length pptt is rs n a b c = refl
 header-length srat is rs n a b c = refl
 header-length hmat is rs n a b c = refl
+header-length cedt is rs n a b c = refl
 
 header-check : (t : Table) (is rs : List ℕ) (n a c d : ℕ) → over (header (headOf t is) n a c ++ rs) 9 (d ∷ []) ≡ header (headOf t is) n a d ++ rs
 unfolding header over le
 header-check pptt is rs n a c d = rw (over-none ((is ++ lay (tail pptt) (told pptt n)) ++ rs) 0 [] (omega arith))
 header-check srat is rs n a c d = rw (over-none ((is ++ lay (tail srat) (told srat n)) ++ rs) 0 [] (omega arith))
 header-check hmat is rs n a c d = rw (over-none ((is ++ lay (tail hmat) (told hmat n)) ++ rs) 0 [] (omega arith))
+header-check cedt is rs n a c d = rw (over-none ((is ++ lay (tail cedt) (told cedt n)) ++ rs) 0 [] (omega arith))
 
 pub finished : (t : Table) (is rs xs : List ℕ) (a b d : ℕ) → 10 ≤ length (header (headOf t is) 0 a 0 ++ rs) → 10 ≤ length (header (headOf t is) 0 b 0 ++ rs)
     → over (over (over xs 0 (header (headOf t is) 0 a 0 ++ rs)) 4 (le 4 b)) 9 (d ∷ []) ≡ over xs 0 (header (headOf t is) 0 b d ++ rs)

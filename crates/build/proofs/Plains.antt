@@ -5,7 +5,7 @@ use mathlib.Core.List.{List, []}
 use native.Mathlib.Omega.{arith}
 use Rattle.format.specs.Bytes.{at, over}
 use Rattle.format.specs.Layout.{asIs, layWith}
-use Rattle.format.specs.Form.{Form, processor, cache, side, size, layout}
+use Rattle.format.specs.Form.{Form, processor, cache, side, xor, size, layout}
 use Rattle.format.specs.Node.{Node, node, bytes}
 use Rattle.format.specs.Recipe.{unset}
 use Rattle.laws.proofs.Shapes.{Plain, plain-matrix}
@@ -19,6 +19,8 @@ use Rattle.pptt.specs.Cache.{cacheShown, cacheNode, cacheBefore}
 use Rattle.hmat.specs.declared.SystemLocality.{SystemLocality}
 use Rattle.hmat.specs.declared.MemorySideCache.{MemorySideCache}
 use Rattle.hmat.specs.Hmat.{matrixCall, matrixNode, sideFields, sideHead, sideFront}
+use Rattle.cedt.specs.declared.XorInterleaveMath.{XorInterleaveMath}
+use Rattle.cedt.specs.Cedt.{mathsFields, mathsHead, mathsFront}
 use Rattle.build.specs.Write.{placeIn, appended, unsetMatrix}
 
 -- without references
@@ -53,4 +55,12 @@ unfolding bytes layWith layout sideFront
 side-appended vs out p n e =
     let z : n .«smbios_handles» ≡ 0 = omega (arith, ap (λ (x : Node). size (x .form)) e) in
     let y : sideFields n ≡ vs = ap (λ (x : Node). x .values) e in
+    rw (z, ← y)
+
+-- maths without maps
+pub maths-appended : (vs out : List ℕ) (p : ℕ) (n : XorInterleaveMath) → mathsHead n ≡ node (xor 0) vs → over out p (mathsFront n) ≡ appended p (node (xor 0) vs) out
+unfolding bytes layWith layout mathsFront
+maths-appended vs out p n e =
+    let z : n .xormaps ≡ 0 = omega (arith, ap (λ (x : Node). size (x .form)) e) in
+    let y : mathsFields n ≡ vs = ap (λ (x : Node). x .values) e in
     rw (z, ← y)

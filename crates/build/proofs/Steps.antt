@@ -3,6 +3,7 @@ use mathlib.Core.Path.{_≡_, refl, sym, ap, _∙_}
 use Prim.Native.Nat.{ℕ, suc, _+_, _-_, _%_, _≤_, _<_}
 use mathlib.Core.List.{List, [], _∷_, _++_, append-assoc, append-nil}
 use mathlib.Core.Bool.{Bool, true, false}
+use mathlib.Core.Logic.{inl}
 use mathlib.Core.Option.{none, some}
 use native.Mathlib.Numerals.{add-one}
 use native.Mathlib.Omega.{arith}
@@ -21,9 +22,8 @@ use Rattle.laws.proofs.Bytes.{bytes-drop, length-part, length-over, sum-append}
 use Rattle.laws.proofs.Lays.{Fit}
 use Rattle.laws.proofs.Heads.{length-records, length-header}
 use Rattle.laws.proofs.Links.{few-nodes}
-use Rattle.laws.proofs.Good.{Good}
-use Rattle.laws.proofs.Grows.{passed, kindHome, grows}
-use Rattle.laws.proofs.Builds.{body-fits, kind-home}
+use Rattle.laws.proofs.Grows.{passed, kindHome, Grown, grown-good, grows}
+use Rattle.laws.proofs.Builds.{other-table, body-fits, kind-home}
 use Rattle.recipe.specs.Machine.{refers}
 use Rattle.marks.specs.declared.Mark.{Mark}
 use Rattle.marks.specs.Marks.{markIn, noted, Every}
@@ -123,9 +123,9 @@ module _ (xs r : List ℕ) (t : Table) (m : Meaning) (s : State) (out ms : List 
     fit : Fit (body k) vs
     fit = body-fits k (drop (suc (s .at)) r) (bytes-drop (suc (s .at)) r (h .bytes)) (rw length-drop (omega (arith, whole)))
 
-    good : Good t (added k vs (h .nodes))
+    good : Grown t (added k vs (h .nodes))
     good =
-        let g : Good (kindHome k) (added k vs (h .nodes)) = grows k vs (h .nodes) fit (rw own (passed t (h .nodes) k vs (found .sound))) (rw own (h .good)) in
+        let g : Grown (kindHome k) (added k vs (h .nodes)) = grows k vs (h .nodes) fit (rw own (passed t (h .nodes) k vs (found .sound))) (found .free) (rw own (h .good)) in
         rw own at g
 
     turns : Turned xs fs t (h .nodes) (added k vs (h .nodes)) (changeOf k s vs) (wrote k s vs out)
@@ -150,7 +150,9 @@ module _ (xs r : List ℕ) (t : Table) (m : Meaning) (s : State) (out ms : List 
 
     -- what the marks lead to, if the record has a reference
     reached : (refers k (drop (suc (s .at)) r) ≡ 0 → ⊥) → Reaches out (h .nodes)
-    reached z = reaches t xs fs (h .nodes) out (sym own ∙ names-pptt k (drop (suc (s .at)) r) z) (laid .long) held-room (h .good) (h .held)
+    reached z =
+        let e = sym own ∙ names-pptt k (drop (suc (s .at)) r) z in
+        reaches t xs fs (h .nodes) out e (laid .long) held-room (grown-good t (h .nodes) (λ f. other-table refl (sym e ∙ f)) (h .good)) (h .held)
 
     pub leading : (refers k (drop (suc (s .at)) r) ≡ 0 → ⊥) → Every (Leads out) ms
     leading z i y =
@@ -298,7 +300,7 @@ started xs r t m s out ps d f bytes b e held sat send splace scount snodes ed ef
       whole = n;
       space = room;
       nodes = [];
-      good = tt;
+      good = inl tt;
       short = omega (arith, front-small t);
       since = 0;
       leads = rw (sat, ← for) leads;

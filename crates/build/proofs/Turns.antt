@@ -1,6 +1,6 @@
 -- One record, kind by kind: what the code writes is the table of the nodes with it, and what changes there is what the code says.
 use mathlib.Core.Path.{_≡_, refl, sym, ap, _∙_}
-use Prim.Native.Nat.{ℕ, zero, suc, _+_, _*_, _≤_, _<_}
+use Prim.Native.Nat.{ℕ, zero, suc, _+_, _-_, _*_, _≤_, _<_}
 use mathlib.Core.List.{List, [], _∷_, _++_, append-assoc, append-nil}
 use mathlib.Core.Bool.{Bool, true, false}
 use native.Mathlib.Omega.{arith}
@@ -12,11 +12,11 @@ use lib.Dec.{ltb}
 use borrow.Author.Tests.{leb-false, ltb-true}
 use Rattle.format.specs.Bytes.{all, at, le, part, over}
 use Rattle.format.specs.Layout.{Item, fld, to, wide, arity, arities, numberWith, layWith, refsGood}
-use Rattle.format.specs.Table.{Table, pptt, srat, hmat, front, limit}
-use Rattle.format.specs.Form.{processor, cache, memory, acpi, pci, rintc, domain, matrix, side, size, layout}
+use Rattle.format.specs.Table.{Table, pptt, srat, hmat, cedt, front, limit}
+use Rattle.format.specs.Form.{processor, cache, memory, acpi, pci, rintc, domain, matrix, side, bridge, window, xor, registers, ways, size, layout}
 use Rattle.format.specs.Node.{Node, node, bytes, sizes, starts, atOrdinal, placeOf}
-use Rattle.format.specs.Kind.{Kind, Processor, Resource, Cache, Memory, Acpi, Pci, Rintc, Domain, Matrix, Initiator, Target, Cell, Side, Handle, body}
-use Rattle.format.specs.Recipe.{Newest, newest, resource, handle, setting, step, added}
+use Rattle.format.specs.Kind.{Kind, Processor, Resource, Cache, Memory, Acpi, Pci, Rintc, Domain, Matrix, Initiator, Target, Cell, Side, Handle, Bridge, Window, WindowTarget, Xor, Map, body}
+use Rattle.format.specs.Recipe.{Newest, newest, joined, setting, step, added}
 use Rattle.format.specs.Build.{records}
 use Rattle.laws.specs.Settings.{Setting, initiator, target, cell, spot, setTo}
 use Rattle.laws.proofs.Finds.{never}
@@ -26,19 +26,22 @@ use Rattle.laws.proofs.Lays.{Fit, fit-length, both-true}
 use Rattle.laws.proofs.Joins.{lay-append}
 use Rattle.laws.proofs.Nodes.{length-bytes}
 use Rattle.laws.proofs.Fits.{replicate-snoc}
-use Rattle.laws.proofs.Shapes.{plain-matrix}
+use Rattle.laws.proofs.Shapes.{plain-fld, plain-matrix}
 use Rattle.laws.proofs.Fields.{bytes-plain}
 use Rattle.laws.proofs.Heads.{length-records}
 use Rattle.laws.proofs.Good.{Good}
-use Rattle.laws.proofs.Grows.{View, seesProcessor, seesMatrix, seesSide, seesOther, view, Passed, kindHome}
+use Rattle.laws.proofs.Grows.{View, seesProcessor, seesMatrix, seesSide, seesWindow, seesXor, seesOther, view, Passed, Grown, grown-good, window-begun, few-targets, maths-fields, kindHome}
+use Rattle.laws.proofs.Builds.{other-table}
 use Rattle.pptt.specs.Processor as processors
 use Rattle.hmat.specs.Hmat as sides
 use Rattle.hmat.specs.Settings as matrices
 use Rattle.hmat.proofs.Matrices.{entry-below, set-in-place}
 use Rattle.hmat.proofs.Sides.{fields-all}
+use Rattle.cedt.specs.Cedt as maths
+use Rattle.cedt.proofs.Windows.{set-target}
 use Rattle.build.specs.declared.State.{State}
 use Rattle.build.specs.declared.Change.{Change}
-use Rattle.build.specs.Write.{placeIn, appended, unsetMatrix, making, growing, settingAt, sets, setting as setting-of, changeOf, wrote}
+use Rattle.build.specs.Write.{placeIn, appended, unsetMatrix, making, counting, growing, filling, settingAt, sets, setting as setting-of, targetAt, changeOf, wrote}
 use Rattle.build.specs.Held.{Counts}
 use Rattle.build.proofs.Agrees.{pptt-agrees, named-place}
 
@@ -52,7 +55,7 @@ pub record Laid (xs fs : List ℕ) (t : Table) (ns : List Node) (s : State) (out
   pub counts : Counts (newest ns) (s .latest)
   pub few : s .latest .count ≤ 65535
   pub counted : s .latest .nodes ≡ length ns
-  pub good : Good t ns
+  pub good : Grown t ns
   pub short : front t + sizes ns ≤ limit
   pub room : front t + sizes ns ≤ length xs
   pub held : out ≡ over xs 0 (fs ++ records t ns)
@@ -150,22 +153,23 @@ lay-one : (g : ℕ → ℕ) (i : Item) (v : ℕ) → layWith g (i ∷ []) (v ∷
 unfolding layWith
 lay-one g i v = append-nil (le (wide i) (numberWith g i (v ∷ [])))
 
-module _ (g : ℕ → ℕ) (i : Item) (one : arity i ≡ 1) (n : ℕ) (us : List ℕ) (l : length us ≡ 3 + n) where
-  first : length (take 3 us) ≡ 3
-  first = length-take-le 3 us (omega arith)
+-- f: how many fields stand before the list
+module _ (g : ℕ → ℕ) (i : Item) (one : arity i ≡ 1) (f n : ℕ) (us : List ℕ) (l : length us ≡ f + n) where
+  first : length (take f us) ≡ f
+  first = length-take-le f us (omega arith)
 
-  rest : length (drop 3 us) ≡ arities (replicate n i)
+  rest : length (drop f us) ≡ arities (replicate n i)
   rest = rw (length-drop, arities-one n i one) (omega arith)
 
-  list-was : (is : List Item) → arities is ≡ 3 → layWith g (is ++ replicate n i) us ≡ layWith g is (take 3 us) ++ layWith g (replicate n i) (drop 3 us)
-  list-was is a = ap (λ (l : List ℕ). layWith g (is ++ replicate n i) l) (sym (take-append-drop 3 us)) ∙ lay-append g is (replicate n i) (take 3 us) (drop 3 us) (first ∙ sym a)
+  list-was : (is : List Item) → arities is ≡ f → layWith g (is ++ replicate n i) us ≡ layWith g is (take f us) ++ layWith g (replicate n i) (drop f us)
+  list-was is a = ap (λ (l : List ℕ). layWith g (is ++ replicate n i) l) (sym (take-append-drop f us)) ∙ lay-append g is (replicate n i) (take f us) (drop f us) (first ∙ sym a)
 
-  list-is : (is : List Item) (v : ℕ) → arities is ≡ 3
-      → layWith g (is ++ replicate (suc n) i) (us ++ (v ∷ [])) ≡ layWith g is (take 3 us) ++ (layWith g (replicate n i) (drop 3 us) ++ layWith g (i ∷ []) (v ∷ []))
+  list-is : (is : List Item) (v : ℕ) → arities is ≡ f
+      → layWith g (is ++ replicate (suc n) i) (us ++ (v ∷ [])) ≡ layWith g is (take f us) ++ (layWith g (replicate n i) (drop f us) ++ layWith g (i ∷ []) (v ∷ []))
   list-is is v a =
-      let e : us ++ (v ∷ []) ≡ take 3 us ++ (drop 3 us ++ (v ∷ [])) = ap (λ (l : List ℕ). l ++ (v ∷ [])) (sym (take-append-drop 3 us)) ∙ append-assoc (take 3 us) (drop 3 us) (v ∷ []) in
-      let b = lay-append g (replicate n i) (i ∷ []) (drop 3 us) (v ∷ []) rest in
-      rw (e, lay-append g is (replicate (suc n) i) (take 3 us) (drop 3 us ++ (v ∷ [])) (first ∙ sym a)) (ap (λ (l : List ℕ). layWith g is (take 3 us) ++ l) (rw replicate-snoc at b))
+      let e : us ++ (v ∷ []) ≡ take f us ++ (drop f us ++ (v ∷ [])) = ap (λ (l : List ℕ). l ++ (v ∷ [])) (sym (take-append-drop f us)) ∙ append-assoc (take f us) (drop f us) (v ∷ []) in
+      let b = lay-append g (replicate n i) (i ∷ []) (drop f us) (v ∷ []) rest in
+      rw (e, lay-append g is (replicate (suc n) i) (take f us) (drop f us ++ (v ∷ [])) (first ∙ sym a)) (ap (λ (l : List ℕ). layWith g is (take f us) ++ l) (rw replicate-snoc at b))
 
 -- one change within what was laid
 inside : (xs z f l x : List ℕ) (p i : ℕ) → p ≡ length z → i + length x ≤ length f → over (over xs 0 (z ++ (f ++ l))) (p + i) x ≡ over xs 0 (z ++ (over f i x ++ l))
@@ -199,6 +203,18 @@ module _ (g : ℕ → ℕ) (n : ℕ) (us : List ℕ) where
   unfolding sideFront layout layWith over le
   side-front = refl
 
+  -- the bytes before the maps of maths
+  mathsFront : ℕ → List ℕ
+  mathsFront m = layWith g (take 6 (layout (xor m))) (take 1 us)
+
+  maths-front : over (over (mathsFront n) 2 (le 2 (size (xor (suc n))))) 7 (le 1 (suc n)) ≡ mathsFront (suc n)
+  unfolding mathsFront layout layWith over le
+  maths-front = refl
+
+  length-maths : (m : ℕ) → length (mathsFront m) ≡ 8
+  unfolding mathsFront layout layWith le
+  length-maths m = refl
+
   length-processor : (m : ℕ) → length (processorFront m) ≡ 20
   unfolding processorFront layout layWith le
   length-processor m = refl
@@ -210,21 +226,30 @@ module _ (g : ℕ → ℕ) (n : ℕ) (us : List ℕ) where
   module _ (l : length us ≡ 3 + n) where
     processor-was : bytes g (node (processor n) us) ≡ processorFront n ++ layWith g (replicate n (to 1)) (drop 3 us)
     unfolding bytes layout processorFront
-    processor-was = list-was g (to 1) refl n us l (take 7 (layout (processor n))) refl
+    processor-was = list-was g (to 1) refl 3 n us l (take 7 (layout (processor n))) refl
 
     processor-is : (v : ℕ) → bytes g (node (processor (suc n)) (us ++ (v ∷ []))) ≡ processorFront (suc n) ++ (layWith g (replicate n (to 1)) (drop 3 us) ++ le 4 (g v))
     unfolding bytes layout processorFront
-    processor-is v = list-is g (to 1) refl n us l (take 7 (layout (processor (suc n)))) v refl ∙ rw (lay-one g (to 1) v)
+    processor-is v = list-is g (to 1) refl 3 n us l (take 7 (layout (processor (suc n)))) v refl ∙ rw (lay-one g (to 1) v)
 
     side-was : bytes g (node (side n) us) ≡ sideFront n ++ layWith g (replicate n (fld 2)) (drop 3 us)
     unfolding bytes layout sideFront
-    side-was = list-was g (fld 2) refl n us l (take 9 (layout (side n))) refl
+    side-was = list-was g (fld 2) refl 3 n us l (take 9 (layout (side n))) refl
 
     side-is : (v : ℕ) → bytes g (node (side (suc n)) (us ++ (v ∷ []))) ≡ sideFront (suc n) ++ (layWith g (replicate n (fld 2)) (drop 3 us) ++ le 2 v)
     unfolding bytes layout sideFront
-    side-is v = list-is g (fld 2) refl n us l (take 9 (layout (side (suc n)))) v refl ∙ rw (lay-one g (fld 2) v)
+    side-is v = list-is g (fld 2) refl 3 n us l (take 9 (layout (side (suc n)))) v refl ∙ rw (lay-one g (fld 2) v)
 
--- ---- resources and handles
+  module _ (l : length us ≡ 1 + n) where
+    maths-was : bytes g (node (xor n) us) ≡ mathsFront n ++ layWith g (replicate n (fld 8)) (drop 1 us)
+    unfolding bytes layout mathsFront
+    maths-was = list-was g (fld 8) refl 1 n us l (take 6 (layout (xor n))) refl
+
+    maths-is : (v : ℕ) → bytes g (node (xor (suc n)) (us ++ (v ∷ []))) ≡ mathsFront (suc n) ++ (layWith g (replicate n (fld 8)) (drop 1 us) ++ le 8 v)
+    unfolding bytes layout mathsFront
+    maths-is v = list-is g (fld 8) refl 1 n us l (take 6 (layout (xor (suc n)))) v refl ∙ rw (lay-one g (fld 8) v)
+
+-- ---- resources, handles and maps
 
 count-processor : (n : ℕ) → arities (layout (processor n)) ≡ 3 + n
 unfolding layout
@@ -236,6 +261,10 @@ alone [] l = absurd (omega arith)
 alone (v ∷ []) l = refl
 alone (v ∷ w ∷ vs) l = absurd (omega arith)
 
+-- nodes of another table lack nothing
+whole : {xs fs : List ℕ} {t : Table} {ns : List Node} {s : State} {out : List ℕ} → Laid xs fs t ns s out → (t ≡ cedt → ⊥) → Good t ns
+whole {t = t} {ns = ns} h w = grown-good t ns w (h .good)
+
 module _ (xs fs : List ℕ) (s : State) (out : List ℕ) where
   resource-one : (n v : ℕ) (us : List ℕ) (ns : List Node) → Laid xs fs pptt (node (processor n) us ∷ ns) s out → n < 58
       → refsGood (atOrdinal (starts pptt ns)) (body Resource) (v ∷ []) ≡ true
@@ -244,7 +273,8 @@ module _ (xs fs : List ℕ) (s : State) (out : List ℕ) where
   resource-one n v us ns h few r =
       let g = placeOf (starts pptt ns) in
       let z = fs ++ records pptt ns in
-      let l : length us ≡ 3 + n = fit-length (layout (processor n)) us (h .good .0 .fit) ∙ count-processor n in
+      let good = whole h (other-table refl) in
+      let l : length us ≡ 3 + n = fit-length (layout (processor n)) us (good .0 .fit) ∙ count-processor n in
       let f = processorFront g n us n in
       let js = layWith g (replicate n (to 1)) (drop 3 us) in
       let old = processor-was g n us l in
@@ -254,7 +284,7 @@ module _ (xs fs : List ℕ) (s : State) (out : List ℕ) where
       let lz : length z ≡ 36 + sizes ns = rw (length-append, length-records) (omega (arith, h .long)) in
       let e : out ≡ over xs 0 (fs ++ (records pptt ns ++ bytes g (node (processor n) us))) = h .held in
       let place : placeIn out v ≡ g v =
-      ap (λ (o : List ℕ). placeIn o v) e ∙ named-place xs fs (bytes g (node (processor n) us)) ns (h .long) (rw (length-append, length-append, length-records, length-bytes) (omega (arith, h .long, h .room))) (h .good .1) (omega (arith, h .short)) v 1 (both-true (atOrdinal (starts pptt ns) v 1) true r .0) in
+      ap (λ (o : List ℕ). placeIn o v) e ∙ named-place xs fs (bytes g (node (processor n) us)) ns (h .long) (rw (length-append, length-append, length-records, length-bytes) (omega (arith, h .long, h .room))) (good .1) (omega (arith, h .short)) v 1 (both-true (atOrdinal (starts pptt ns) v 1) true r .0) in
       let o : out ≡ over xs 0 (z ++ (f ++ js)) = e ∙ rw (old, append-assoc) in
       let w = grew xs z f js (le 1 (size (processor (suc n)))) (le 4 (suc n)) (le 4 (g v)) (s .latest .place) 1 16 (s .latest .place + size (processor n)) (h .place ∙ sym lz) (rw length-le (omega arith)) (rw length-le (omega arith)) (omega arith) in
       changed xs fs pptt ns (node (processor n) us) (node (processor (suc n)) (us ++ (v ∷ []))) (growing s 20 4) _ [] f (processorFront g n us (suc n)) js (le 4 (g v))
@@ -267,7 +297,7 @@ module _ (xs fs : List ℕ) (s : State) (out : List ℕ) where
   handle-one n v us ns h few =
       let g = placeOf (starts hmat ns) in
       let z = fs ++ records hmat ns in
-      let l : length us ≡ 3 + n = fit-length (layout (side n)) us (h .good .0 .fit) ∙ fields-all n in
+      let l : length us ≡ 3 + n = fit-length (layout (side n)) us (whole h (other-table refl) .0 .fit) ∙ fields-all n in
       let f = sideFront g n us n in
       let js = layWith g (replicate n (fld 2)) (drop 3 us) in
       let old = side-was g n us l in
@@ -281,7 +311,26 @@ module _ (xs fs : List ℕ) (s : State) (out : List ℕ) where
       (h .long) old (side-is g n us l v) (length-side g n us (suc n) ∙ sym lf) (h .place ∙ omega arith) (sym lf) (sym (length-le 2 v)) (h .place) (ap (λ (k : ℕ). k + 1) (h .counts) ∙ add-one n) (omega (arith, h .counts)) (h .counted)
       (rw (h .counts, add-one n, o) (w ∙ rw (side-front g n us, ← side-is g n us l v)))
 
--- ---- settings
+  map-one : (n v : ℕ) (us : List ℕ) (ns : List Node) → Laid xs fs cedt (node (xor n) us ∷ ns) s out → length us ≡ 1 + n → n < 255
+      → Turned xs fs cedt (node (xor n) us ∷ ns) (node (xor (suc n)) (us ++ (v ∷ [])) ∷ ns) (growing s 8 8) (maths.grown out (s .latest .place) (s .latest .count) v)
+  unfolding records sizes maths.grown
+  map-one n v us ns h l few =
+      let g = placeOf (starts cedt ns) in
+      let z = fs ++ records cedt ns in
+      let f = mathsFront g n us n in
+      let js = layWith g (replicate n (fld 8)) (drop 1 us) in
+      let old = maths-was g n us l in
+      let lf : length f ≡ 8 = length-maths g n us n in
+      let lb : length (f ++ js) ≡ 8 + 8 * n = rw old at (length-bytes g (node (xor n) us)) in
+      let lj : length js ≡ 8 * n = omega (arith, rw length-append at lb) in
+      let lz : length z ≡ 36 + sizes ns = rw (length-append, length-records) (omega (arith, h .long)) in
+      let o : out ≡ over xs 0 (z ++ (f ++ js)) = h .held ∙ rw (old, append-assoc) in
+      let w = grew xs z f js (le 2 (size (xor (suc n)))) (le 1 (suc n)) (le 8 v) (s .latest .place) 2 7 (s .latest .place + 8 + 8 * n) (h .place ∙ sym lz) (rw length-le (omega arith)) (rw length-le (omega arith)) (omega arith) in
+      changed xs fs cedt ns (node (xor n) us) (node (xor (suc n)) (us ++ (v ∷ []))) (growing s 8 8) _ [] f (mathsFront g n us (suc n)) js (le 8 v)
+      (h .long) old (maths-is g n us l v) (length-maths g n us (suc n) ∙ sym lf) (h .place ∙ omega arith) (sym lf) (sym (length-le 8 v)) (h .place) (ap (λ (k : ℕ). k + 1) (h .counts) ∙ add-one n) (omega (arith, h .counts)) (h .counted)
+      (rw (h .counts, add-one n, o) (w ∙ rw (maths-front g n us, ← maths-is g n us l v)))
+
+-- ---- settings, and targets of a window
 
 -- a setting lies within its record
 within : (i t : ℕ) (x : Setting) → matrices.Inside i t x → matrices.placeIn 0 i t x + matrices.wideIn x ≤ size (matrix i t)
@@ -308,49 +357,98 @@ unfolding part
 split-at b k w = sym (rw (← drop-drop, take-append-drop w (drop k b)) (take-append-drop k b))
 
 module _ (xs fs : List ℕ) (s : State) (out : List ℕ) where
+  -- the newest record is the same but for w bytes from its byte k on
+  patched : {t : Table} (a b : Node) (ns : List Node) → Laid xs fs t (a ∷ ns) s out → (c : Change) (k w v : ℕ)
+      → bytes (placeOf (starts t ns)) b ≡ over (bytes (placeOf (starts t ns)) a) k (le w v) → k + w ≤ size (a .form)
+      → c .from ≡ s .latest .place + k → c .len ≡ w → c .more ≡ 0
+      → c .latest .place ≡ front t + sizes ns → Counts (newest (b ∷ ns)) (c .latest) → c .latest .count ≤ 65535 → c .latest .nodes ≡ suc (length ns)
+      → Turned xs fs t (a ∷ ns) (b ∷ ns) c (over out (c .from) (le w v))
+  unfolding records sizes
+  patched {t} a b ns h c k w v new inn from len more place counts few counted =
+      let g = placeOf (starts t ns) in
+      let z = fs ++ records t ns in
+      let old = bytes g a in
+      let cs = le w v in
+      let lb : length old ≡ size (a .form) = length-bytes g a in
+      let lc : length cs ≡ w = length-le w v in
+      let lz : length z ≡ front t + sizes ns = rw (length-append, length-records) (omega (arith, h .long)) in
+      let o : out ≡ over xs 0 (z ++ (old ++ [])) = h .held ∙ rw (append-nil, append-assoc) in
+      let lk : length (take k old) ≡ k = length-take-le k old (omega arith) in
+      changed xs fs t ns a b c _ (take k old) (part old k w) cs (drop (k + w) old) []
+      (h .long) (split-at old k w) (new ∙ over-fits old k cs (omega arith) ∙ rw (lc, append-nil)) (lc ∙ sym (length-part old k w (omega arith))) (from ∙ omega (arith, h .place)) (len ∙ sym (length-part old k w (omega arith))) more place counts few counted
+      (rw (from, o) (inside xs z old [] cs (s .latest .place) k (h .place ∙ sym lz) (omega arith) ∙ rw (append-nil, ← new)))
+
   setting-one : (i t : ℕ) (us : List ℕ) (ns : List Node) (x : Setting) → Laid xs fs hmat (node (matrix i t) us ∷ ns) s out → matrices.Inside i t x
       → Turned xs fs hmat (node (matrix i t) us ∷ ns) (node (matrix i t) (set us (spot i t x) (setTo x)) ∷ ns) (setting-of s x) (sets s x out)
   unfolding records sizes
   setting-one i t us ns x h inn =
       let g = placeOf (starts hmat ns) in
-      let z = fs ++ records hmat ns in
-      let b = bytes g (node (matrix i t) us) in
-      let k = matrices.placeIn 0 i t x in
-      let w = matrices.wideIn x in
-      let cs = le w (setTo x) in
-      let l = fit-length (layout (matrix i t)) us (h .good .0 .fit) in
-      let new = set-bytes g i t us x l inn in
-      let lb : length b ≡ size (matrix i t) = length-bytes g (node (matrix i t) us) in
-      let lc : length cs ≡ w = length-le w (setTo x) in
-      let m = within i t x inn in
-      let lk : length (take k b) ≡ k = length-take-le k b (omega arith) in
-      let lz : length z ≡ 40 + sizes ns = rw (length-append, length-records) (omega (arith, h .long)) in
-      let at-place : settingAt s x ≡ s .latest .place + k = rw (h .counts .0, h .counts .1) (offset (s .latest .place) i t x) in
-      let o : out ≡ over xs 0 (z ++ (b ++ [])) = h .held ∙ rw (append-nil, append-assoc) in
-      changed xs fs hmat ns (node (matrix i t) us) (node (matrix i t) (set us (spot i t x) (setTo x))) (setting-of s x) _ (take k b) (part b k w) cs (drop (k + w) b) []
-      (h .long) (split-at b k w) (new ∙ over-fits b k cs (omega arith) ∙ rw (lc, append-nil)) (lc ∙ sym (length-part b k w (omega arith))) (at-place ∙ omega (arith, h .place)) (sym (length-part b k w (omega arith))) refl (h .place) (h .counts) (h .few) (h .counted)
-      (rw (at-place, o) (inside xs z b [] cs (s .latest .place) k (h .place ∙ sym lz) (omega arith) ∙ rw (append-nil, ← new)))
+      let l = fit-length (layout (matrix i t)) us (whole h (other-table refl) .0 .fit) in
+      let at-place : settingAt s x ≡ s .latest .place + matrices.placeIn 0 i t x = rw (h .counts .0, h .counts .1) (offset (s .latest .place) i t x) in
+      patched (node (matrix i t) us) (node (matrix i t) (set us (spot i t x) (setTo x))) ns h (setting-of s x) (matrices.placeIn 0 i t x) (matrices.wideIn x) (setTo x) (set-bytes g i t us x l inn) (within i t x inn) at-place refl refl (h .place) (h .counts) (h .few) (h .counted)
 
-  resource-turned : (vs : List ℕ) → Fit (body Resource) vs → {ns : List Node} {x : Newest} → View ns x → resource vs x .placed ≡ true → resource vs x .full ≡ false
-      → refsGood (atOrdinal (starts pptt (resource vs x .earlier))) (body Resource) vs ≡ true → Laid xs fs pptt ns s out
-      → Turned xs fs pptt ns (resource vs x .nodes) (growing s 20 4) (processors.grown out (s .latest .place) (s .latest .count) (record { 0 = placeIn out (at vs 0) }))
-  unfolding resource body
+  -- the next target of a window that has k
+  target-one : (n k v : ℕ) (us : List ℕ) (ns : List Node) → Laid xs fs cedt (node (window n) us ∷ ns) s out → length us ≡ 7 + k → k < n → n ≤ 16
+      → Turned xs fs cedt (node (window n) us ∷ ns) (node (window n) (us ++ (v ∷ [])) ∷ ns) (filling s (targetAt s) 4) (over out (targetAt s) (le 4 v))
+  unfolding records sizes
+  target-one n k v us ns h l few most =
+      let a = node (window n) us in
+      let b = node (window n) (us ++ (v ∷ [])) in
+      let g = placeOf (starts cedt ns) in
+      let c : s .latest .count ≡ k = h .counts ∙ omega arith in
+      let e : length (bytes g b) ≡ length (bytes g a) = rw (length-bytes, length-bytes) in
+      let new : bytes g b ≡ over (bytes g a) (36 + 4 * k) (le 4 v) = sym (over-all (bytes g a) (bytes g b) e) ∙ sym (set-target g (bytes g a) 0 n us k v l few) ∙ rw (over-all (bytes g a) (bytes g a) refl) in
+      patched a b ns h (filling s (targetAt s) 4) (36 + 4 * k) 4 v new (omega arith) (omega arith) refl refl (h .place) (rw length-append (omega arith)) (omega arith) (h .counted)
+
+  resource-turned : (vs : List ℕ) → Fit (body Resource) vs → {ns : List Node} {x : Newest} → View ns x → joined Resource vs x .placed ≡ true → joined Resource vs x .full ≡ false
+      → refsGood (atOrdinal (starts pptt (joined Resource vs x .earlier))) (body Resource) vs ≡ true → Laid xs fs pptt ns s out
+      → Turned xs fs pptt ns (joined Resource vs x .nodes) (growing s 20 4) (processors.grown out (s .latest .place) (s .latest .count) (record { 0 = placeIn out (at vs 0) }))
+  unfolding joined body
   resource-turned vs f (seesProcessor {n} {us} {ns}) p e r h =
       let a = alone vs (fit-length (body Resource) vs f) in
       rw a (resource-one xs fs s out n (at vs 0) us ns h (omega (arith, leb-false 58 n e)) (rw a at r))
   resource-turned vs f seesMatrix p e r h = never p
   resource-turned vs f seesSide p e r h = never p
+  resource-turned vs f seesWindow p e r h = never p
+  resource-turned vs f seesXor p e r h = never p
   resource-turned vs f seesOther p e r h = never p
 
-  handle-turned : (vs : List ℕ) → Fit (body Handle) vs → {ns : List Node} {x : Newest} → View ns x → handle vs x .placed ≡ true → handle vs x .full ≡ false → Laid xs fs hmat ns s out
-      → Turned xs fs hmat ns (handle vs x .nodes) (growing s 32 2) (sides.grown out (s .latest .place) (s .latest .count) (at vs 0))
-  unfolding handle body
+  handle-turned : (vs : List ℕ) → Fit (body Handle) vs → {ns : List Node} {x : Newest} → View ns x → joined Handle vs x .placed ≡ true → joined Handle vs x .full ≡ false → Laid xs fs hmat ns s out
+      → Turned xs fs hmat ns (joined Handle vs x .nodes) (growing s 32 2) (sides.grown out (s .latest .place) (s .latest .count) (at vs 0))
+  unfolding joined body
   handle-turned vs f seesProcessor p e h = never p
   handle-turned vs f seesMatrix p e h = never p
   handle-turned vs f (seesSide {n} {us} {ns}) p e h =
       let a = alone vs (fit-length (body Handle) vs f) in
       rw a (handle-one xs fs s out n (at vs 0) us ns h (omega (arith, leb-false 65535 n e)))
+  handle-turned vs f seesWindow p e h = never p
+  handle-turned vs f seesXor p e h = never p
   handle-turned vs f seesOther p e h = never p
+
+  target-turned : (vs : List ℕ) → Fit (body WindowTarget) vs → {ns : List Node} {x : Newest} → View ns x → joined WindowTarget vs x .placed ≡ true → joined WindowTarget vs x .full ≡ false → Laid xs fs cedt ns s out
+      → Turned xs fs cedt ns (joined WindowTarget vs x .nodes) (filling s (targetAt s) 4) (over out (targetAt s) (le 4 (at vs 0)))
+  unfolding joined body
+  target-turned vs f seesProcessor p e h = never p
+  target-turned vs f seesMatrix p e h = never p
+  target-turned vs f seesSide p e h = never p
+  target-turned vs f (seesWindow {n} {us} {ns}) p e h =
+      let a = alone vs (fit-length (body WindowTarget) vs f) in
+      let b = window-begun cedt n us ns (h .good) in
+      rw a (target-one n (length us - 7) (at vs 0) us ns h (omega arith) (leb-false n (length us - 7) e) (few-targets n us ns (h .good)))
+  target-turned vs f seesXor p e h = never p
+  target-turned vs f seesOther p e h = never p
+
+  map-turned : (vs : List ℕ) → Fit (body Map) vs → {ns : List Node} {x : Newest} → View ns x → joined Map vs x .placed ≡ true → joined Map vs x .full ≡ false → Laid xs fs cedt ns s out
+      → Turned xs fs cedt ns (joined Map vs x .nodes) (growing s 8 8) (maths.grown out (s .latest .place) (s .latest .count) (at vs 0))
+  unfolding joined body
+  map-turned vs f seesProcessor p e h = never p
+  map-turned vs f seesMatrix p e h = never p
+  map-turned vs f seesSide p e h = never p
+  map-turned vs f seesWindow p e h = never p
+  map-turned vs f (seesXor {n} {us} {ns}) p e h =
+      let a = alone vs (fit-length (body Map) vs f) in
+      rw a (map-one xs fs s out n (at vs 0) us ns h (maths-fields n us ns (h .good)) (leb-false 255 n e))
+  map-turned vs f seesOther p e h = never p
 
   setting-turned : (tests : ℕ → ℕ → List Bool) (x : Setting) → ((i t : ℕ) → all (tests i t) ≡ true → matrices.Inside i t x) → {ns : List Node} {y : Newest} → View ns y
       → setting tests (λ i t. spot i t x) (setTo x) y .placed ≡ true → all (setting tests (λ i t. spot i t x) (setTo x) y .ranges) ≡ true → Laid xs fs hmat ns s out
@@ -359,20 +457,22 @@ module _ (xs fs : List ℕ) (s : State) (out : List ℕ) where
   setting-turned tests x inn seesProcessor p r h = never p
   setting-turned tests x inn (seesMatrix {i} {t} {us} {ns}) p r h = setting-one i t us ns x h (inn i t r)
   setting-turned tests x inn seesSide p r h = never p
+  setting-turned tests x inn seesWindow p r h = never p
+  setting-turned tests x inn seesXor p r h = never p
   setting-turned tests x inn seesOther p r h = never p
 
 -- ---- every kind
 
 module _ {xs fs : List ℕ} {ns : List Node} {s : State} {out : List ℕ} where
-  among : Laid xs fs pptt ns s out → (n : Node) → Good pptt (n ∷ ns) → bytes (placeIn out) n ≡ bytes (placeOf (starts pptt ns)) n
+  among : Laid xs fs pptt ns s out → (n : Node) → Grown pptt (n ∷ ns) → bytes (placeIn out) n ≡ bytes (placeOf (starts pptt ns)) n
   unfolding bytes
   among h n g =
       let e : out ≡ over xs 0 (fs ++ (records pptt ns ++ [])) = h .held ∙ rw append-nil in
-      rw e (pptt-agrees xs fs [] ns (h .long) (rw (append-nil, length-append, length-records) (omega (arith, h .long, h .room))) (h .good) (h .short) (layout (n .form)) (n .values) (g .0 .refs))
+      rw e (pptt-agrees xs fs [] ns (h .long) (rw (append-nil, length-append, length-records) (omega (arith, h .long, h .room))) (whole h (other-table refl)) (h .short) (layout (n .form)) (n .values) (grown-good pptt (n ∷ ns) (other-table refl) g .0 .refs))
 
-  pub turned : (k : Kind) (vs : List ℕ) → Laid xs fs (kindHome k) ns s out → Fit (body k) vs → Passed (kindHome k) ns k vs → Good (kindHome k) (added k vs ns)
+  pub turned : (k : Kind) (vs : List ℕ) → Laid xs fs (kindHome k) ns s out → Fit (body k) vs → Passed (kindHome k) ns k vs → Grown (kindHome k) (added k vs ns)
       → Turned xs fs (kindHome k) ns (added k vs ns) (changeOf k s vs) (wrote k s vs out)
-  unfolding step changeOf wrote layout
+  unfolding step body changeOf wrote layout
   turned Processor vs h f p g = made h (node (processor 0) vs) 0 0 refl (among h (node (processor 0) vs) g)
   turned Resource vs h f p g = resource-turned xs fs s out vs f (view ns) (p .place) (p .room) (p .refs) h
   turned Cache vs h f p g = made h (node cache vs) 0 0 tt (among h (node cache vs) g)
@@ -391,3 +491,9 @@ module _ {xs fs : List ℕ} {ns : List Node} {s : State} {out : List ℕ} where
       (λ i t r. let (a, b) = both-true (ltb (at vs 0) i) (ltb (at vs 1) t) r in (ltb-true (at vs 0) i a, ltb-true (at vs 1) t b)) (view ns) (p .place) (p .field) h
   turned Side vs h f p g = made h (node (side 0) vs) 0 0 refl (bytes-plain (placeIn out) (placeOf (starts hmat ns)) (node (side 0) vs) tt)
   turned Handle vs h f p g = handle-turned xs fs s out vs f (view ns) (p .place) (p .room) h
+  turned Bridge vs h f p g = made h (node (bridge (registers (at vs 1))) vs) 0 0 tt (bytes-plain (placeIn out) (placeOf (starts cedt ns)) (node (bridge (registers (at vs 1))) vs) tt)
+  turned Window vs h f p g =
+      made h (node (window (ways (at vs 2))) vs) 0 0 (omega (arith, fit-length (body Window) vs f)) (bytes-plain (placeIn out) (placeOf (starts cedt ns)) (node (window (ways (at vs 2))) vs) (plain-fld (ways (at vs 2)) 4))
+  turned WindowTarget vs h f p g = target-turned xs fs s out vs f (view ns) (p .place) (p .room) h
+  turned Xor vs h f p g = made h (node (xor 0) vs) 0 0 refl (bytes-plain (placeIn out) (placeOf (starts cedt ns)) (node (xor 0) vs) tt)
+  turned Map vs h f p g = map-turned xs fs s out vs f (view ns) (p .place) (p .room) h

@@ -6,7 +6,7 @@ use lib.Dec.{eqb}
 use Rattle.format.specs.Bytes.{pick, Answer, refused, given}
 use Rattle.laws.specs.Unique.{Fixes}
 use Rattle.laws.proofs.Sole.{sole, sole-meant, sole-pair}
-use Rattle.recipe.specs.declared.Refusal.the-variants.{NoHead, BadKind, Cut, Misplaced, BadField, Forward, WrongKind, FullNode, TooLong}
+use Rattle.recipe.specs.declared.Refusal.the-variants.{NoHead, BadKind, Cut, Misplaced, BadField, Forward, WrongKind, FullNode, TooLong, Incomplete}
 use Rattle.recipe.proofs.Unique.{refusalOf}
 use Rattle.build.specs.declared.Built.{Built}
 use Rattle.build.specs.declared.Built.the-variants.{Length, NoRoom, Refused}
@@ -31,6 +31,7 @@ built-back (Refused Forward p) = refl
 built-back (Refused WrongKind p) = refl
 built-back (Refused FullNode p) = refl
 built-back (Refused TooLong p) = refl
+built-back (Refused Incomplete p) = refl
 
 -- `build`
 pub one-built : (a b : Built) (n : Answer ℕ) → shown a ≡ n → shown b ≡ n → a ≡ b

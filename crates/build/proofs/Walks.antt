@@ -13,7 +13,7 @@ use borrow.Author.Tests.{eqb-true, eqb-false, ne-eqb, leb-true, leb-false}
 use Rattle.format.specs.Bytes.{pick, at, le, over}
 use Rattle.format.specs.Layout.{layWith}
 use Rattle.format.specs.Table.{Table, pptt, front, limit}
-use Rattle.format.specs.Form.{Form, processor, cache, memory, acpi, pci, rintc, domain, matrix, side, size, layout}
+use Rattle.format.specs.Form.{Form, processor, cache, memory, acpi, pci, rintc, domain, matrix, side, bridge, window, xor, size, layout}
 use Rattle.format.specs.Node.{Node, bytes, sizes, starts, placeOf}
 use Rattle.format.specs.Build.{records}
 use Rattle.laws.proofs.Bytes.{over-fits}
@@ -49,7 +49,7 @@ place-some bs k z = rw (ne-eqb k 0 z)
 
 -- ---- among records
 
-length-byte : (g : ℕ → ℕ) (f : Form) (vs rest : List ℕ) → tableFor f ≡ pptt → Within f → at (layWith g (layout f) vs ++ rest) 1 ≡ size f
+length-byte : (g : ℕ → ℕ) (f : Form) (vs rest : List ℕ) → tableFor f ≡ pptt → Within f vs → at (layWith g (layout f) vs ++ rest) 1 ≡ size f
 unfolding layWith layout le
 length-byte g (processor n) vs rest o w = omega arith
 length-byte g cache vs rest o w = refl
@@ -60,6 +60,9 @@ length-byte g rintc vs rest o w = cc
 length-byte g domain vs rest o w = cc
 length-byte g (matrix i t) vs rest o w = cc
 length-byte g (side n) vs rest o w = cc
+length-byte g (bridge n) vs rest o w = cc
+length-byte g (window n) vs rest o w = cc
+length-byte g (xor n) vs rest o w = cc
 
 -- the byte behind a place among the records
 behind : (xs rs bs : List ℕ) (p : ℕ) → p ≡ length xs + length rs → at (xs ++ (rs ++ bs)) (p + 1) ≡ at bs 1
@@ -75,7 +78,7 @@ hops-none : (bs : List ℕ) (p : ℕ) → hops bs 0 p ≡ p + 0
 unfolding hops
 hops-none bs p = sym (add-zero p)
 
-own-length : (g : ℕ → ℕ) (n : Node) (zs : List ℕ) → tableFor (n .form) ≡ pptt → Within (n .form) → at (bytes g n ++ zs) 1 ≡ size (n .form)
+own-length : (g : ℕ → ℕ) (n : Node) (zs : List ℕ) → tableFor (n .form) ≡ pptt → Within (n .form) (n .values) → at (bytes g n ++ zs) 1 ≡ size (n .form)
 unfolding bytes
 own-length g n zs o w = length-byte g (n .form) (n .values) zs o w
 

@@ -7,47 +7,53 @@ use mathlib.Core.Option.{Option, none, some}
 use native.Mathlib.Omega.{arith}
 use lib.ListN.{length, drop, getD, length-drop}
 use lib.Seq.{drop-cons, drop-drop}
-use lib.Dec.{ltb}
+use lib.Dec.{eqb, ltb}
 use borrow.Author.Tests.{ltb-false}
-use Rattle.format.specs.Bytes.{pick, at, part, Answer, refused, given}
+use Rattle.format.specs.Bytes.{pick, at, part, Answer, refused, given, unless}
 use Rattle.format.specs.Layout.{width, fields}
 use Rattle.format.specs.Table.{Head, headOf}
 use Rattle.format.specs.Node.{Node, sizes}
-use Rattle.format.specs.Kind.{Kind, Processor, Resource, Cache, Memory, Acpi, Pci, Rintc, Domain, Matrix, Initiator, Target, Cell, Side, Handle, kindOf, body}
-use Rattle.format.specs.Recipe.{Calls, done, badKind, cutOff, called, cutAs, skip, cut, resource, handle, setting, step, added, fault, faultAt, Meaning, means, since, run, headed, meaning}
+use Rattle.format.specs.Kind.{Kind, Processor, Resource, Cache, Memory, Acpi, Pci, Rintc, Domain, Matrix, Initiator, Target, Cell, Side, Handle, Bridge, Window, WindowTarget, Xor, Map, kindNumber, kindOf, body}
+use Rattle.format.specs.Recipe.{Calls, done, badKind, cutOff, called, cutAs, skip, cut, newest, joined, setting, changes, stray, step, added, fault, lacking, faultAt, Meaning, means, since, run, headed, meaning}
 use Rattle.format.specs.Build.{table}
 use Rattle.laws.proofs.Finds.{never, then-given, unless-given}
-use Rattle.laws.proofs.Grows.{View, seesProcessor, seesMatrix, seesSide, seesOther, view, passed}
+use Rattle.laws.proofs.Grows.{View, seesProcessor, seesMatrix, seesSide, seesWindow, seesXor, seesOther, view, passed}
 use Rattle.laws.proofs.Calls.{cut-skip}
 use Rattle.laws.proofs.Builds.{headed-given}
 
 -- ---- the nodes only grow
 
-resource-grows : (vs : List ℕ) {ns : List Node} {x : _} → View ns x → resource vs x .placed ≡ true → sizes ns ≤ sizes (resource vs x .nodes)
-unfolding resource sizes
-resource-grows vs seesProcessor p = omega arith
-resource-grows vs seesMatrix p = never p
-resource-grows vs seesSide p = never p
-resource-grows vs seesOther p = never p
+-- a record that joins the newest node's list, whose form with one more is at least as long
+taken : (k j : Kind) (full : Bool) (n : Node) (ns : List Node) (m : ℕ) → m ≤ sizes (n ∷ ns) → pick (eqb (kindNumber k) (kindNumber j)) (changes [] full n ns) stray .placed ≡ true
+    → m ≤ sizes (pick (eqb (kindNumber k) (kindNumber j)) (changes [] full n ns) stray .nodes)
+taken k j full n ns m h p = by (eqb (kindNumber k) (kindNumber j)) p
+  where
+    by : (x : Bool) → pick x (changes [] full n ns) stray .placed ≡ true → m ≤ sizes (pick x (changes [] full n ns) stray .nodes)
+    by true p = h
+    by false p = never p
 
-handle-grows : (vs : List ℕ) {ns : List Node} {x : _} → View ns x → handle vs x .placed ≡ true → sizes ns ≤ sizes (handle vs x .nodes)
-unfolding handle sizes
-handle-grows vs seesProcessor p = never p
-handle-grows vs seesMatrix p = never p
-handle-grows vs seesSide p = omega arith
-handle-grows vs seesOther p = never p
+joined-grows : (k : Kind) (vs : List ℕ) {ns : List Node} {x : _} → View ns x → joined k vs x .placed ≡ true → sizes ns ≤ sizes (joined k vs x .nodes)
+unfolding joined sizes
+joined-grows k vs seesProcessor p = taken k Resource _ _ _ _ (omega arith) p
+joined-grows k vs seesMatrix p = never p
+joined-grows k vs seesSide p = taken k Handle _ _ _ _ (omega arith) p
+joined-grows k vs seesWindow p = taken k WindowTarget _ _ _ _ (omega arith) p
+joined-grows k vs seesXor p = taken k Map _ _ _ _ (omega arith) p
+joined-grows k vs seesOther p = never p
 
 setting-grows : (tests : ℕ → ℕ → List Bool) (field : ℕ → ℕ → ℕ) (v : ℕ) {ns : List Node} {x : _} → View ns x → setting tests field v x .placed ≡ true → sizes ns ≤ sizes (setting tests field v x .nodes)
 unfolding setting sizes
 setting-grows tests field v seesProcessor p = never p
 setting-grows tests field v seesMatrix p = omega arith
 setting-grows tests field v seesSide p = never p
+setting-grows tests field v seesWindow p = never p
+setting-grows tests field v seesXor p = never p
 setting-grows tests field v seesOther p = never p
 
 sizes-grow : (k : Kind) (vs : List ℕ) (ns : List Node) → step k vs ns .placed ≡ true → sizes ns ≤ sizes (added k vs ns)
 unfolding step sizes
 sizes-grow Processor vs ns p = omega arith
-sizes-grow Resource vs ns p = resource-grows vs (view ns) p
+sizes-grow Resource vs ns p = joined-grows Resource vs (view ns) p
 sizes-grow Cache vs ns p = omega arith
 sizes-grow Memory vs ns p = omega arith
 sizes-grow Acpi vs ns p = omega arith
@@ -59,32 +65,45 @@ sizes-grow Initiator vs ns p = setting-grows (λ i t. ltb (at vs 0) i ∷ []) (�
 sizes-grow Target vs ns p = setting-grows (λ i t. ltb (at vs 0) t ∷ []) (λ i t. 4 + i + at vs 0) (at vs 1) (view ns) p
 sizes-grow Cell vs ns p = setting-grows (λ i t. ltb (at vs 0) i ∷ ltb (at vs 1) t ∷ []) (λ i t. 4 + i + t + at vs 0 * t + at vs 1) (at vs 2) (view ns) p
 sizes-grow Side vs ns p = omega arith
-sizes-grow Handle vs ns p = handle-grows vs (view ns) p
+sizes-grow Handle vs ns p = joined-grows Handle vs (view ns) p
+sizes-grow Bridge vs ns p = omega arith
+sizes-grow Window vs ns p = omega arith
+sizes-grow WindowTarget vs ns p = joined-grows WindowTarget vs (view ns) p
+sizes-grow Xor vs ns p = omega arith
+sizes-grow Map vs ns p = joined-grows Map vs (view ns) p
 
 -- ---- running
 
 not-given : {A : Type 0} {n p : ℕ} {m : Meaning} → _≡_ {A = Answer Meaning} (refused n p) (given m) → A
 not-given e = absurd (let z : _≡_ {A = ℕ} 0 1 = cc in omega arith)
 
+-- nor where something else is asked first
+never-given : {A : Type 0} (n q i p : ℕ) {m : Meaning} → unless {A = Meaning} n q (refused i p) ≡ given m → A
+never-given n q i p e = not-given (unless-given n q (refused i p) e .1)
+
 run-turn : (h : Head) (q : ℕ) (ns : List Node) (p : ℕ) (k : Kind) (vs : List ℕ) (rest : Calls) (m : Meaning) → run h q ns (called p k vs rest) ≡ given m
-    → (fault (h .table) ns k vs ≡ 0) × (run h (since ns (added k vs ns) p q) (added k vs ns) rest ≡ given m)
+    → (lacking (newest ns) (some k) ≡ 0) × (fault (h .table) ns k vs ≡ 0) × (run h (since ns (added k vs ns) p q) (added k vs ns) rest ≡ given m)
 unfolding run
 run-turn h q ns p k vs rest m e =
     let n = fault (h .table) ns k vs in
-    unless-given n (p + faultAt n k (step k vs ns .ranges)) (run h (since ns (added k vs ns) p q) (added k vs ns) rest) e
+    let (i, d) = unless-given (lacking (newest ns) (some k)) q _ e in
+    let (z, r) = unless-given n (p + faultAt n k (step k vs ns .ranges)) (run h (since ns (added k vs ns) p q) (added k vs ns) rest) d in
+    (i, z, r)
 
 pub run-end : (h : Head) (q : ℕ) (ns : List Node) (m : Meaning) → run h q ns done ≡ given m → means h ns ≡ m
 unfolding run
-run-end h q ns m e = cc
+run-end h q ns m e =
+    let (i, d) = unless-given (lacking (newest ns) none) q (given (means h ns)) e in
+    cc
 
 -- the head stays, and the nodes only grow
 pub run-keeps : (h : Head) (q : ℕ) (ns : List Node) (cs : Calls) (m : Meaning) → run h q ns cs ≡ given m → (h ≡ m .head) × (sizes ns ≤ sizes (m .nodes))
 unfolding run
 run-keeps h q ns done m e = let z = run-end h q ns m e in rw (← z) (refl, omega arith)
-run-keeps h q ns (badKind p) m e = not-given e
-run-keeps h q ns (cutOff p k) m e = not-given e
+run-keeps h q ns (badKind p) m e = never-given (lacking (newest ns) none) q 2 p e
+run-keeps h q ns (cutOff p k) m e = never-given (lacking (newest ns) (some k)) q 3 p e
 run-keeps h q ns (called p k vs rest) m e =
-    let (z, r) = run-turn h q ns p k vs rest m e in
+    let (i, z, r) = run-turn h q ns p k vs rest m e in
     let (a, b) = run-keeps h (since ns (added k vs ns) p q) (added k vs ns) rest m r in
     (a, omega (arith, sizes-grow k vs ns (passed (h .table) ns k vs z .place)))
 
@@ -93,6 +112,7 @@ run-keeps h q ns (called p k vs rest) m e =
 -- the record is whole, is not refused, and the rest leads on
 pub record Turn (h : Head) (r : List ℕ) (ns : List Node) (p : ℕ) (k : Kind) (m : Meaning) : Type 0 where
   pub whole : suc p + width (body k) ≤ length r
+  pub free : lacking (newest ns) (some k) ≡ 0
   pub sound : fault (h .table) ns k (fields (body k) (drop (suc p) r)) ≡ 0
   pub since : ℕ
   pub leads : run h since (added k (fields (body k) (drop (suc p) r)) ns) (cut (h .table) 0 (suc p + width (body k)) (drop (suc p + width (body k)) r)) ≡ given m
@@ -102,13 +122,13 @@ module _ (h : Head) (q : ℕ) (r : List ℕ) (ns : List Node) (p : ℕ) (m : Mea
       → run h q ns (pick x (cutOff p k) (called p k (fields (body k) (drop (suc p) r)) (cut (h .table) (width (body k)) (suc p) (drop (suc p) r)))) ≡ given m
       → Turn h r ns p k m
   unfolding run
-  turn-at k true l e f = not-given f
+  turn-at k true l e f = never-given (lacking (newest ns) (some k)) q 3 p f
   turn-at k false l e f =
       let d : length (drop (suc p) r) ≡ length r - suc p = length-drop (suc p) r in
       let w : width (body k) ≤ length (drop (suc p) r) = ltb-false (length (drop (suc p) r)) (width (body k)) e in
       let vs = fields (body k) (drop (suc p) r) in
-      let (z, g) = run-turn h q ns p k vs (cut (h .table) (width (body k)) (suc p) (drop (suc p) r)) m f in
-      record { whole = omega arith; sound = z; since = since ns (added k vs ns) p q; leads = rw (cut-skip (h .table) (width (body k)) (suc p) (drop (suc p) r), drop-drop) at g }
+      let (i, z, g) = run-turn h q ns p k vs (cut (h .table) (width (body k)) (suc p) (drop (suc p) r)) m f in
+      record { whole = omega arith; free = i; sound = z; since = since ns (added k vs ns) p q; leads = rw (cut-skip (h .table) (width (body k)) (suc p) (drop (suc p) r), drop-drop) at g }
 
   cut-first : p < length r → cut (h .table) 0 p (drop p r) ≡ cutAs (kindOf (h .table) (getD r p 0)) (drop (suc p) r) p (cut (h .table) (skip (kindOf (h .table) (getD r p 0))) (suc p) (drop (suc p) r))
   unfolding cut
@@ -121,7 +141,7 @@ module _ (h : Head) (q : ℕ) (r : List ℕ) (ns : List Node) (p : ℕ) (m : Mea
 
   as-kind : (o : Option Kind) → p < length r → run h q ns (cutAs o (drop (suc p) r) p (cut (h .table) (skip o) (suc p) (drop (suc p) r))) ≡ given m → (k : Kind) × (o ≡ some k) × Turn h r ns p k m
   unfolding cutAs run
-  as-kind none l e = not-given e
+  as-kind none l e = never-given (lacking (newest ns) none) q 2 p e
   as-kind (some k) l e = (k, refl, turn-at k (ltb (length (drop (suc p) r)) (width (body k))) l refl e)
 
   pub turn : p < length r → run h q ns (cut (h .table) 0 p (drop p r)) ≡ given m → (k : Kind) × (kindOf (h .table) (getD r p 0) ≡ some k) × Turn h r ns p k m

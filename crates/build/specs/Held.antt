@@ -7,9 +7,9 @@ use lib.Dec.{eqb}
 use Rattle.format.specs.Bytes.{Bytes, pick, part, over, sum, given}
 use Rattle.format.specs.Table.{Table, pptt, Head, headOf, front, limit}
 use Rattle.format.specs.Node.{Node, sizes}
-use Rattle.format.specs.Recipe.{Meaning, Newest, aProcessor, aMatrix, aSide, other, newest, cut, run, meaning}
+use Rattle.format.specs.Recipe.{Meaning, Newest, aList, aMatrix, other, newest, cut, run, meaning}
 use Rattle.format.specs.Build.{records, header}
-use Rattle.laws.proofs.Good.{Good}
+use Rattle.laws.proofs.Grows.{Grown}
 use Rattle.build.specs.declared.Latest.{Latest}
 use Rattle.marks.specs.declared.Mark.{Mark}
 use Rattle.marks.specs.Marks.{noted, Every}
@@ -29,9 +29,8 @@ frontOf t r n = header (headIn t r) 0 n 0
 
 -- the counts of the newest record, if another can join it
 abbrev pub Counts : Newest → Latest → Type 0
-Counts (aProcessor n us ns) l = l .count ≡ n
+Counts (aList k least most n f us ns) l = l .count ≡ n
 Counts (aMatrix i t us ns) l = (l .initiators ≡ i) × (l .targets ≡ t)
-Counts (aSide n us ns) l = l .count ≡ n
 Counts other l = Unit
 
 -- ---- places of records
@@ -70,7 +69,7 @@ pub record Held (xs r : List ℕ) (t : Table) (m : Meaning) (s : State) (out ms 
   pub whole : 28 ≤ length r
   pub space : front t + sizes (m .nodes) ≤ length xs
   pub nodes : List Node
-  pub good : Good t nodes
+  pub good : Grown t nodes
   pub short : front t + sizes nodes ≤ limit
   pub since : ℕ
   pub leads : run (headIn t r) since nodes (cut t 0 (s .at) (drop (s .at) r)) ≡ given m

@@ -1,18 +1,20 @@
 -- What the writing pass does, record by record: the bytes of the buffer, and the numbers that the pass keeps.
 use mathlib.Core.Path.{_≡_}
-use Prim.Native.Nat.{ℕ, zero, suc, _+_, _-_, _%_}
+use Prim.Native.Nat.{ℕ, zero, suc, _+_, _-_, _*_, _%_}
 use mathlib.Core.List.{List}
 use lib.Dec.{eqb}
 use Rattle.format.specs.Bytes.{pick, at, le, over}
-use Rattle.format.specs.Form.{processor, cache, memory, acpi, pci, rintc, domain, matrix, side, size}
+use Rattle.format.specs.Form.{processor, cache, memory, acpi, pci, rintc, domain, matrix, side, bridge, window, xor, registers, ways, size}
 use Rattle.format.specs.Layout.{fld, to, wide}
 use Rattle.format.specs.Node.{Node, node, bytes}
-use Rattle.format.specs.Kind.{Kind, Processor, Resource, Cache, Memory, Acpi, Pci, Rintc, Domain, Matrix, Initiator, Target, Cell, Side, Handle}
+use Rattle.format.specs.Kind.{Kind, Processor, Resource, Cache, Memory, Acpi, Pci, Rintc, Domain, Matrix, Initiator, Target, Cell, Side, Handle, Bridge, Window, WindowTarget, Xor, Map}
 use Rattle.format.specs.Recipe.{unset}
 use Rattle.pptt.specs.Processor as pptt
 use Rattle.hmat.specs.Hmat as hmat
 use Rattle.hmat.specs.Settings as matrices
+use Rattle.cedt.specs.Cedt as cedt
 use Rattle.laws.specs.Settings.{Setting, initiator, target, cell, setTo}
+use Rattle.build.specs.declared.Latest.{Latest}
 use Rattle.build.specs.declared.State.{State}
 use Rattle.build.specs.declared.Change.{Change}
 
@@ -44,6 +46,10 @@ settingAt s x = matrices.placeIn (s .latest .place) (s .latest .initiators) (s .
 abbrev pub sets : State → Setting → List ℕ → List ℕ
 sets s x out = over out (settingAt s x) (le (matrices.wideIn x) (setTo x))
 
+-- the place of the newest window's next target
+abbrev pub targetAt : State → ℕ
+targetAt s = s .latest .place + 36 + 4 * s .latest .count
+
 -- the buffer after a record of a kind with the fields vs
 unfoldable pub wrote : Kind → State → List ℕ → List ℕ → List ℕ
 wrote Processor s vs out = appended (s .end) (node (processor 0) vs) out
@@ -60,6 +66,11 @@ wrote Target s vs out = sets s (target (at vs 0) (at vs 1)) out
 wrote Cell s vs out = sets s (cell (at vs 0) (at vs 1) (at vs 2)) out
 wrote Side s vs out = appended (s .end) (node (side 0) vs) out
 wrote Handle s vs out = hmat.grown out (s .latest .place) (s .latest .count) (at vs 0)
+wrote Bridge s vs out = appended (s .end) (node (bridge (registers (at vs 1))) vs) out
+wrote Window s vs out = appended (s .end) (node (window (ways (at vs 2))) vs) out
+wrote WindowTarget s vs out = over out (targetAt s) (le 4 (at vs 0))
+wrote Xor s vs out = appended (s .end) (node (xor 0) vs) out
+wrote Map s vs out = cedt.grown out (s .latest .place) (s .latest .count) (at vs 0)
 
 -- ---- the numbers
 
@@ -67,15 +78,18 @@ wrote Handle s vs out = hmat.grown out (s .latest .place) (s .latest .count) (at
 abbrev pub making : State → ℕ → ℕ → ℕ → Change
 making s n i t = record { from = s .end; len = 0; more = n; latest = record { nodes = s .latest .nodes + 1; place = s .end; count = 0; initiators = i; targets = t } }
 
+-- the newest record with one item more
+abbrev pub counting : State → Latest
+counting s =
+    record { nodes = s .latest .nodes; place = s .latest .place; count = s .latest .count + 1; initiators = s .latest .initiators; targets = s .latest .targets }
+
 -- the newest record gets one item of w bytes more, and its first n bytes say so
 abbrev pub growing : State → ℕ → ℕ → Change
-growing s n w =
-    record {
-      from = s .latest .place;
-      len = n;
-      more = w;
-      latest = record { nodes = s .latest .nodes; place = s .latest .place; count = s .latest .count + 1; initiators = s .latest .initiators; targets = s .latest .targets };
-    }
+growing s n w = record { from = s .latest .place; len = n; more = w; latest = counting s }
+
+-- the newest record has room for its next item, of w bytes: it is set
+abbrev pub filling : State → ℕ → ℕ → Change
+filling s from w = record { from = from; len = w; more = 0; latest = counting s }
 
 -- a value or a cell of the newest matrix is set
 abbrev pub setting : State → Setting → Change
@@ -97,6 +111,11 @@ changeOf Target s vs = setting s (target (at vs 0) (at vs 1))
 changeOf Cell s vs = setting s (cell (at vs 0) (at vs 1) (at vs 2))
 changeOf Side s vs = making s (size (side 0)) 0 0
 changeOf Handle s vs = growing s (size (side 0)) (wide (fld 2))
+changeOf Bridge s vs = making s (size (bridge 0)) 0 0
+changeOf Window s vs = making s (size (window (ways (at vs 2)))) 0 0
+changeOf WindowTarget s vs = filling s (targetAt s) (wide (fld 4))
+changeOf Xor s vs = making s (size (xor 0)) 0 0
+changeOf Map s vs = growing s (size (xor 0)) (wide (fld 8))
 
 -- a change is that of some record of a kind
 abbrev pub Changes : Kind → Change → Type 0

@@ -12,11 +12,16 @@ ghost use Rattle.format.specs.Recipe.{Meaning, meaning};
 ghost use Rattle.format.specs.Build.{checkOf, build, table as tableOf, built};
 ghost use Rattle.header.specs.Header.{meant};
 ghost use Rattle.recipe.specs.Kinds.{meantKind, referenceOf, ordinalIn};
-ghost use Rattle.build.specs.Write.{hops, placeIn, wrote, making, growing, changeOf, Changes};
+ghost use Rattle.build.specs.Write.{hops, placeIn, wrote, making, counting, growing, filling, changeOf, Changes};
 ghost use Rattle.build.specs.Held.{frontOf, Leads, Placed, keptWith, Held, Ready, Goes, Ends, Small, Builds};
 ghost use Rattle.marks.specs.Marks.{Every};
 ghost use Rattle.recipe.specs.Answers.{number};
 ghost use Rattle.build.specs.Answers.{shown, numberIn, placeOf};
+use cedt::CxlFixedMemory;
+use cedt::CxlHostBridge;
+use cedt::CxlTarget;
+use cedt::XorInterleaveMath;
+use cedt::XorMap;
 use header::Checksum;
 use header::Table;
 use header::TableHeader;
@@ -41,7 +46,7 @@ use srat::GenericInitiator;
 use srat::MemoryAffinity;
 use srat::RintcAffinity;
 
-// The newest record: how many there are with it, its place, how many resources or handles it has, a matrix's I and T.
+// The newest record: how many there are with it, its place, how many items its list has, a matrix's I and T.
 struct Latest {
     nodes: u32,
     place: usize,
@@ -93,6 +98,7 @@ fn number_of(refusal: Refusal) -> u8
         Refusal::WrongKind => 10,
         Refusal::FullNode => 7,
         Refusal::TooLong => 8,
+        Refusal::Incomplete => 11,
     }
 }
 
@@ -256,6 +262,21 @@ fn put(kind: Kind, bytes: &[u8], out: &mut [u8], s: State, found: Found, change:
             latest.count as u16,
             SmbiosHandle::from_body(&bytes[..SmbiosHandle::BODY]),
         ),
+        Kind::Bridge => CxlHostBridge::from_body(&bytes[..CxlHostBridge::BODY]).put(out, end),
+        Kind::Window => CxlFixedMemory::from_body(&bytes[..CxlFixedMemory::BODY]).put(out, end),
+        Kind::WindowTarget => CxlFixedMemory::add_target(
+            out,
+            place,
+            latest.count as usize,
+            CxlTarget::from_body(&bytes[..CxlTarget::BODY]),
+        ),
+        Kind::Xor => XorInterleaveMath::from_body(&bytes[..XorInterleaveMath::BODY]).put(out, end),
+        Kind::Map => XorInterleaveMath::add_xormap(
+            out,
+            place,
+            latest.count as u16,
+            XorMap::from_body(&bytes[..XorMap::BODY]),
+        ),
     }
 }
 
@@ -280,6 +301,21 @@ impl State {
         }
     }
 
+    // The newest record with one item more.
+    fn counting(self) -> Latest
+        requires { ⌜ Small self ⌝ }
+        ensures { λ r. ⌜ r ≡ counting self ⌝ }
+    {
+        let latest = self.latest;
+        Latest {
+            nodes: latest.nodes,
+            place: latest.place,
+            count: latest.count + 1,
+            initiators: latest.initiators,
+            targets: latest.targets,
+        }
+    }
+
     // The newest record gets one item more, and its first bytes say so.
     fn growing(self, len: usize, more: usize) -> Change
         requires { ⌜ Small self ⌝ }
@@ -290,13 +326,20 @@ impl State {
             from: latest.place,
             len,
             more,
-            latest: Latest {
-                nodes: latest.nodes,
-                place: latest.place,
-                count: latest.count + 1,
-                initiators: latest.initiators,
-                targets: latest.targets,
-            },
+            latest: self.counting(),
+        }
+    }
+
+    // The newest record has room for its next item: it is set.
+    fn filling(self, from: usize, len: usize) -> Change
+        requires { ⌜ Small self ⌝ }
+        ensures { λ r. ⌜ r ≡ filling self from len ⌝ }
+    {
+        Change {
+            from,
+            len,
+            more: 0,
+            latest: self.counting(),
         }
     }
 
@@ -366,6 +409,27 @@ fn setting_cell(bytes: &[u8], s: State) -> Change
     )
 }
 
+// A window is made at the end, with room for its targets.
+fn making_window(bytes: &[u8], s: State) -> Change
+    requires { ⌜ Small s ⌝ }
+    ensures { λ r. ⌜ r ≡ changeOf format.Window s (fields (body format.Window) (now (bytes .entry))) ⌝ }
+{
+    let node = CxlFixedMemory::from_body(bytes);
+    s.making(node.len(), 0, 0)
+}
+
+// The newest window's next target is set.
+fn filling_window(s: State) -> Change
+    requires { ⌜ Small s ⌝ }
+    ensures { λ r. ⌜ ((vs : List ℕ) → r ≡ changeOf format.WindowTarget s vs) ⌝ }
+{
+    let latest = s.latest;
+    s.filling(
+        CxlFixedMemory::target_place(latest.place, latest.count as usize),
+        CxlTarget::LEN,
+    )
+}
+
 // What the record of a kind changes.
 fn change_of(kind: Kind, bytes: &[u8], s: State) -> Change
     requires { ⌜ Small s ⌝ }
@@ -386,6 +450,11 @@ fn change_of(kind: Kind, bytes: &[u8], s: State) -> Change
         Kind::Cell => setting_cell(bytes, s),
         Kind::Side => s.making(MemorySideCache::LEN, 0, 0),
         Kind::Handle => s.growing(MemorySideCache::LEN, SmbiosHandle::LEN),
+        Kind::Bridge => s.making(CxlHostBridge::LEN, 0, 0),
+        Kind::Window => making_window(bytes, s),
+        Kind::WindowTarget => filling_window(s),
+        Kind::Xor => s.making(XorInterleaveMath::LEN, 0, 0),
+        Kind::Map => s.growing(XorInterleaveMath::LEN, XorMap::LEN),
     }
 }
 
@@ -449,6 +518,11 @@ fn before(kind: Kind, out: &[u8], change: Change, sum: Checksum) -> Checksum
         Kind::Cell => without(out, from, Cell::LEN, sum),
         Kind::Side => sum,
         Kind::Handle => without(out, from, MemorySideCache::LEN, sum),
+        Kind::Bridge => sum,
+        Kind::Window => sum,
+        Kind::WindowTarget => without(out, from, CxlTarget::LEN, sum),
+        Kind::Xor => sum,
+        Kind::Map => without(out, from, XorInterleaveMath::LEN, sum),
     }
 }
 
@@ -478,6 +552,14 @@ fn after(kind: Kind, out: &[u8], change: Change, end: usize, sum: Checksum) -> C
         Kind::Handle => {
             let sum = with(out, from, MemorySideCache::LEN, sum);
             with_more(out, end, SmbiosHandle::LEN, sum)
+        }
+        Kind::Bridge => with_more(out, end, CxlHostBridge::LEN, sum),
+        Kind::Window => with_more(out, end, change.more, sum),
+        Kind::WindowTarget => with(out, from, CxlTarget::LEN, sum),
+        Kind::Xor => with_more(out, end, XorInterleaveMath::LEN, sum),
+        Kind::Map => {
+            let sum = with(out, from, XorInterleaveMath::LEN, sum);
+            with_more(out, end, XorMap::LEN, sum)
         }
     }
 }

@@ -1,5 +1,14 @@
-// Builds three tables through the constructors and setters of the node types, as a program for the Rust crate would, without a recipe.
+// Builds four tables through the constructors and setters of the node types, as a program for the Rust crate would, without a recipe.
 // Each is shown whole, read out, and built again from that recipe: the bytes have to be the same.
+use cedt::CxlFixedMemory;
+use cedt::CxlHostBridge;
+use cedt::CxlTarget;
+use cedt::CxlVersion;
+use cedt::InterleaveArithmetic;
+use cedt::InterleaveGranularity;
+use cedt::InterleaveWays;
+use cedt::XorInterleaveMath;
+use cedt::XorMap;
 use header::Checksum;
 use header::Table;
 use header::TableHeader;
@@ -150,6 +159,63 @@ fn localities(out: &mut [u8]) {
     MemorySideCache::grow(out, SIDE, 0, SmbiosHandle(258));
 }
 
+// ---- CEDT: a host bridge of each version, a window over both, one over three others, and the maths of the first
+
+const OLD: usize = Table::CEDT_FRONT;
+
+const NEW: usize = OLD + CxlHostBridge::LEN;
+
+const PAIR: usize = NEW + CxlHostBridge::LEN;
+
+const TRIPLE: usize = PAIR + CxlFixedMemory::LEN + 2 * CxlTarget::LEN;
+
+const MATHS: usize = TRIPLE + CxlFixedMemory::LEN + 3 * CxlTarget::LEN;
+
+const CEDT_LEN: usize = MATHS + XorInterleaveMath::LEN + XorMap::LEN;
+
+fn pair(out: &mut [u8]) {
+    let pair = CxlFixedMemory::new(
+            18253611008,
+            34359738368,
+            InterleaveArithmetic::ModuloXor,
+            InterleaveGranularity::Granularity256b,
+            InterleaveWays::Ways2,
+            7,
+        )
+        .cxl_type_3_memory()
+        .volatile();
+    pair.put(out, PAIR);
+    CxlFixedMemory::add_target(out, PAIR, 0, CxlTarget(6));
+    CxlFixedMemory::add_target(out, PAIR, 1, CxlTarget(7));
+}
+
+fn triple(out: &mut [u8]) {
+    let triple = CxlFixedMemory::new(
+            52613349376,
+            805306368,
+            InterleaveArithmetic::Modulo,
+            InterleaveGranularity::Granularity4kb,
+            InterleaveWays::Ways3,
+            0,
+        )
+        .cxl_type_2_memory()
+        .persistent()
+        .fixed_configuration();
+    triple.put(out, TRIPLE);
+    CxlFixedMemory::add_target(out, TRIPLE, 0, CxlTarget(8));
+    CxlFixedMemory::add_target(out, TRIPLE, 1, CxlTarget(9));
+    CxlFixedMemory::add_target(out, TRIPLE, 2, CxlTarget(10));
+}
+
+fn links(out: &mut [u8]) {
+    CxlHostBridge::new(6, CxlVersion::Cxl1_1, 3489660928).put(out, OLD);
+    CxlHostBridge::new(7, CxlVersion::Cxl2, 3489726464).put(out, NEW);
+    pair(out);
+    triple(out);
+    XorInterleaveMath::new(InterleaveGranularity::Granularity256b).put(out, MATHS);
+    XorInterleaveMath::add_xormap(out, MATHS, 0, XorMap(4210944));
+}
+
 // ---- the whole table
 
 // Writes header and front of a table of n bytes whose records stand, with the checksum over all of it.
@@ -200,6 +266,7 @@ fn lengths() {
     number(GenericInitiator::len());
     number(RintcAffinity::len());
     number(MemoryProximityDomain::len());
+    number(CxlHostBridge::len());
     number(TableHeader::len());
     number(header::limit());
     io::write_all(STDOUT_FILENO, b"\n");
@@ -209,6 +276,7 @@ fn main() {
     let mut pptt = [0u8; ROOM];
     let mut srat = [0u8; ROOM];
     let mut hmat = [0u8; ROOM];
+    let mut cedt = [0u8; ROOM];
     lengths();
     caches(&mut pptt);
     processors(&mut pptt);
@@ -220,4 +288,7 @@ fn main() {
     localities(&mut hmat);
     finish(Table::Hmat, HMAT_LEN as u32, &mut hmat);
     trip(field::part(&hmat, 0, HMAT_LEN));
+    links(&mut cedt);
+    finish(Table::Cedt, CEDT_LEN as u32, &mut cedt);
+    trip(field::part(&cedt, 0, CEDT_LEN));
 }

@@ -1,6 +1,7 @@
 -- Two outcomes of a function that meet its contract show the same: each contract equates the buffer afterwards, or the result, with one thing.
 use Rattle.laws.specs.Unique.{Fixes}
 use Rattle.laws.proofs.Sole.{sole}
+use Rattle.field.proofs.behind.Reads as behind
 use Rattle.field.proofs.put_u8.Reads as put-u8
 use Rattle.field.proofs.put_u16.Reads as put-u16
 use Rattle.field.proofs.put_u32.Reads as put-u32
@@ -21,6 +22,7 @@ use Rattle.field.proofs.u8sum.Reads as u8sum
 
 -- for each public function: what its contract fixes of the result `x` and of the parameters afterwards, `p`
 pub record Unique : Type 0 where
+  behind : Fixes behind.Learnt (λ k x p. x)
   put-u8 : Fixes put-u8.Learnt (λ k x p. p .0 .now)
   put-u16 : Fixes put-u16.Learnt (λ k x p. p .0 .now)
   put-u32 : Fixes put-u32.Learnt (λ k x p. p .0 .now)
@@ -40,6 +42,7 @@ pub record Unique : Type 0 where
 pub unique : Unique
 unique =
     record {
+      behind = λ k a x y p q. sole;
       put-u8 = λ k a x y p q. sole;
       put-u16 = λ k a x y p q. sole;
       put-u32 = λ k a x y p q. sole;

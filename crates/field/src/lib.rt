@@ -1,7 +1,7 @@
 // Numbers and byte strings, laid into a buffer and read out of one, the lowest byte first.
 // Any place is allowed: what would reach past the end is left out, and what is read there counts as 0.
 ghost use mathlib.Core.Path.{_≡_};
-ghost use Prim.Native.Nat.{_+_, _-_, _%_, _^_, _≤_, _<_, min};
+ghost use Prim.Native.Nat.{_+_, _-_, _*_, _%_, _^_, _≤_, _<_, min};
 ghost use lib.ListN.{length, drop, replicate};
 ghost use Rattle.format.specs.Bytes.{le, value, join, part, over, sum};
 
@@ -16,6 +16,20 @@ fn fitting(len: usize, at: usize, n: usize) -> usize
         return n;
     }
     len - at
+}
+
+// The place k steps of w bytes behind another. Where that is past what a usize can name it is the last place of all: no slice is longer,
+// so nothing stands there.
+pub fn behind(at: usize, w: usize, k: usize) -> usize
+    ensures { λ r. ⌜ r ≡ min (at + w * k) (2 ^ 64 - 1) ⌝ }
+{
+    if w == 0 {
+        return at;
+    }
+    if (usize::MAX - at) / w < k {
+        return usize::MAX;
+    }
+    at + w * k
 }
 
 // ---- numbers that fit: no bound is tested

@@ -4,9 +4,9 @@ use mathlib.Core.List.{List, [], _∷_}
 use mathlib.Core.Bool.{Bool}
 use Rattle.format.specs.Bytes.{pick}
 use Rattle.format.specs.Layout.{Item, wide}
-use Rattle.format.specs.Form.{Form, processor, cache, memory, acpi, pci, rintc, domain, matrix, side, ranges}
+use Rattle.format.specs.Form.{Form, processor, cache, memory, acpi, pci, rintc, domain, matrix, side, bridge, window, xor, ranges}
 use Rattle.format.specs.Node.{Node}
-use Rattle.format.specs.Kind.{Kind, Processor, Cache, Memory, Acpi, Pci, Rintc, Domain, Matrix, Side, body}
+use Rattle.format.specs.Kind.{Kind, Processor, Cache, Memory, Acpi, Pci, Rintc, Domain, Matrix, Side, Bridge, Window, Xor, body}
 
 -- the kind that makes a node of this form
 abbrev pub maker : Form → Kind
@@ -19,6 +19,9 @@ maker rintc = Rintc
 maker domain = Domain
 maker (matrix i t) = Matrix
 maker (side n) = Side
+maker (bridge n) = Bridge
+maker (window n) = Window
+maker (xor n) = Xor
 
 -- the place of the first field whose test fails; 0 where none does; p: the place of the first
 unfoldable pub firstBad : ℕ → List Item → List Bool → ℕ

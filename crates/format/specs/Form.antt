@@ -1,5 +1,5 @@
 -- The forms of records, with their inner counts: types, lengths, layouts, and the ranges of their fields.
-use Prim.Native.Nat.{ℕ, _+_, _*_}
+use Prim.Native.Nat.{ℕ, _+_, _-_, _*_, _^_}
 use mathlib.Core.List.{List, [], _∷_, _++_}
 use mathlib.Core.Bool.{Bool, true}
 use lib.ListN.{replicate}
@@ -13,6 +13,9 @@ pub data Form : Type 0 where
   cache memory acpi pci rintc domain : Form
   matrix : ℕ → ℕ → Form  -- I by T
   side : ℕ → Form  -- with n SMBIOS handles
+  bridge : ℕ → Form  -- with n bytes of registers
+  window : ℕ → Form  -- with n targets
+  xor : ℕ → Form  -- with n maps
 
 -- the type that a record of the form has in its frame
 abbrev pub typeOf : Form → ℕ
@@ -25,6 +28,9 @@ typeOf rintc = 7
 typeOf domain = 0
 typeOf (matrix i t) = 1
 typeOf (side n) = 2
+typeOf (bridge n) = 0
+typeOf (window n) = 1
+typeOf (xor n) = 2
 
 -- the length of a record
 abbrev pub size : Form → ℕ
@@ -37,6 +43,9 @@ size rintc = 16
 size domain = 40
 size (matrix i t) = 32 + 4 * i + 4 * t + 2 * (i * t)
 size (side n) = 32 + 2 * n
+size (bridge n) = 32
+size (window n) = 36 + 4 * n
+size (xor n) = 8 + 8 * n
 
 -- PPTT and SRAT begin with type and length in a byte each
 abbrev pub short : Form → List Item → List Item
@@ -45,6 +54,10 @@ short f is = fix 1 (typeOf f) ∷ fix 1 (size f) ∷ is
 -- HMAT begins with type, 2 zero, length in four bytes
 abbrev pub long : Form → List Item → List Item
 long f is = fix 2 (typeOf f) ∷ fix 2 0 ∷ fix 4 (size f) ∷ is
+
+-- CEDT begins with type, 1 zero, length in two bytes
+abbrev pub middle : Form → List Item → List Item
+middle f is = fix 1 (typeOf f) ∷ fix 1 0 ∷ fix 2 (size f) ∷ is
 
 -- the layout rows
 unfoldable pub layout : Form → List Item
@@ -75,6 +88,25 @@ layout (matrix i t) =
 layout (side n) =
     -- domain, 4 zero, size 8, attributes, 2 zero, n 2, n handles
     long (side n) (fld 4 ∷ fix 4 0 ∷ fld 8 ∷ fld 4 ∷ fix 2 0 ∷ fix 2 n ∷ replicate n (fld 2))
+layout (bridge n) =
+    -- uid, version 4, 4 zero, base 8, length 8
+    middle (bridge n) (fld 4 ∷ fld 4 ∷ fix 4 0 ∷ fld 8 ∷ fix 8 n ∷ [])
+layout (window n) =
+    -- 4 zero, base 8, size 8, ways, arithmetic, 2 zero, granularity 4, restrictions 2, QTG 2, n targets
+    middle (window n) (fix 4 0 ∷ fld 8 ∷ fld 8 ∷ fld 1 ∷ fld 1 ∷ fix 2 0 ∷ fld 4 ∷ fld 2 ∷ fld 2 ∷ replicate n (fld 4))
+layout (xor n) =
+    -- 2 zero, granularity, n, n maps
+    middle (xor n) (fix 2 0 ∷ fld 1 ∷ fix 1 n ∷ replicate n (fld 8))
+
+-- ---- counts that a field settles
+
+-- the bytes of a bridge's registers, by its version
+unfoldable pub registers : ℕ → ℕ
+registers v = pick (eqb v 0) 8192 65536
+
+-- the number of ways, by its code: 0 to 4 stand for 1 to 16, 8 to 10 for 3, 6 and 12; no other code for any
+unfoldable pub ways : ℕ → ℕ
+ways c = pick (leb c 4) (2 ^ c) (pick (both (leb 8 c) (leb c 10)) (3 * 2 ^ (c - 8)) 0)
 
 -- ---- ranges and bit rules
 
@@ -113,3 +145,6 @@ ranges rintc vs = any ∷ leb (at vs 1) 1 ∷ []
 ranges domain vs = []
 ranges (matrix i t) vs = matrixFlags (at vs 0) ∷ leb (at vs 1) 5 ∷ leb (at vs 2) 11 ∷ []
 ranges (side n) vs = any ∷ any ∷ sideAttributes (at vs 2) ∷ []
+ranges (bridge n) vs = any ∷ leb (at vs 1) 1 ∷ []
+ranges (window n) vs = any ∷ any ∷ ltb 0 (ways (at vs 2)) ∷ leb (at vs 3) 1 ∷ leb (at vs 4) 6 ∷ leb (at vs 5) 31 ∷ []
+ranges (xor n) vs = leb (at vs 0) 6 ∷ []

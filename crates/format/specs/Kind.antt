@@ -1,15 +1,16 @@
 -- The kinds of a recipe's records, and their bodies.
 use Prim.Native.Nat.{ℕ}
 use mathlib.Core.List.{List, [], _∷_}
-use mathlib.Core.Option.{Option}
+use mathlib.Core.Bool.{Bool, false}
+use mathlib.Core.Option.{Option, none, some}
 use lib.Dec.{eqb}
 use Rattle.format.specs.Bytes.{find}
 use Rattle.format.specs.Layout.{Item, fld, to, orNone}
-use Rattle.format.specs.Table.{Table, pptt, srat, hmat}
+use Rattle.format.specs.Table.{Table, pptt, srat, hmat, cedt}
 
 -- the kinds but the head
 pub data Kind : Type 0 where
-  Processor Resource Cache Memory Acpi Pci Rintc Domain Matrix Initiator Target Cell Side Handle : Kind
+  Processor Resource Cache Memory Acpi Pci Rintc Domain Matrix Initiator Target Cell Side Handle Bridge Window WindowTarget Xor Map : Kind
 
 -- the byte that names a kind
 abbrev pub kindNumber : Kind → ℕ
@@ -27,16 +28,27 @@ kindNumber Target = 51
 kindNumber Cell = 52
 kindNumber Side = 53
 kindNumber Handle = 54
+kindNumber Bridge = 64
+kindNumber Window = 65
+kindNumber WindowTarget = 66
+kindNumber Xor = 67
+kindNumber Map = 68
 
--- 16 to 18 PPTT, 32 to 35 SRAT, 48 to 54 HMAT
+-- 16 to 18 PPTT, 32 to 35 SRAT, 48 to 54 HMAT, 64 to 68 CEDT
 abbrev pub kinds : Table → List Kind
 kinds pptt = Processor ∷ Resource ∷ Cache ∷ []
 kinds srat = Memory ∷ Acpi ∷ Pci ∷ Rintc ∷ []
 kinds hmat = Domain ∷ Matrix ∷ Initiator ∷ Target ∷ Cell ∷ Side ∷ Handle ∷ []
+kinds cedt = Bridge ∷ Window ∷ WindowTarget ∷ Xor ∷ Map ∷ []
 
 -- the kind that a byte names in a recipe of this table
 unfoldable pub kindOf : Table → ℕ → Option Kind
 kindOf t b = find (λ k. eqb b (kindNumber k)) (kinds t)
+
+-- k is what came
+abbrev pub isKind : Kind → Option Kind → Bool
+isKind k none = false
+isKind k (some j) = eqb (kindNumber j) (kindNumber k)
 
 -- the fields of a body
 unfoldable pub body : Kind → List Item
@@ -54,3 +66,8 @@ body Target = fld 1 ∷ fld 4 ∷ []
 body Cell = fld 1 ∷ fld 1 ∷ fld 2 ∷ []
 body Side = fld 4 ∷ fld 8 ∷ fld 4 ∷ []
 body Handle = fld 2 ∷ []
+body Bridge = fld 4 ∷ fld 1 ∷ fld 8 ∷ []
+body Window = fld 8 ∷ fld 8 ∷ fld 1 ∷ fld 1 ∷ fld 1 ∷ fld 1 ∷ fld 2 ∷ []
+body WindowTarget = fld 4 ∷ []
+body Xor = fld 1 ∷ []
+body Map = fld 8 ∷ []

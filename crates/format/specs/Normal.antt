@@ -6,9 +6,9 @@ use lib.Dec.{eqb}
 use Rattle.format.specs.Bytes.{pick, ofGiven, part}
 use Rattle.format.specs.Layout.{lay}
 use Rattle.format.specs.Table.{code, Head}
-use Rattle.format.specs.Form.{Form, processor, cache, memory, acpi, pci, rintc, domain, matrix, side}
+use Rattle.format.specs.Form.{Form, processor, cache, memory, acpi, pci, rintc, domain, matrix, side, bridge, window, xor}
 use Rattle.format.specs.Node.{Node}
-use Rattle.format.specs.Kind.{Kind, Processor, Resource, Cache, Memory, Acpi, Pci, Rintc, Domain, Matrix, Initiator, Target, Cell, Side, Handle, kindNumber, body}
+use Rattle.format.specs.Kind.{Kind, Processor, Resource, Cache, Memory, Acpi, Pci, Rintc, Domain, Matrix, Initiator, Target, Cell, Side, Handle, Bridge, Window, WindowTarget, Xor, Map, kindNumber, body}
 use Rattle.format.specs.Recipe.{Meaning, meaning}
 
 -- the bytes of one record
@@ -43,6 +43,9 @@ calls rintc vs = call Rintc vs
 calls domain vs = call Domain vs
 calls (matrix i t) vs = call Matrix (take 4 vs ++ (i ∷ t ∷ [])) ++ settings i t (drop 4 vs)
 calls (side n) vs = call Side (take 3 vs) ++ each Handle (drop 3 vs)
+calls (bridge n) vs = call Bridge vs
+calls (window n) vs = call Window (take 7 vs) ++ each WindowTarget (drop 7 vs)
+calls (xor n) vs = call Xor (take 1 vs) ++ each Map (drop 1 vs)
 
 -- the same of the node as a whole
 abbrev pub callsOfNode : Node → List ℕ

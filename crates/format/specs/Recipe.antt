@@ -1,16 +1,16 @@
 -- The recipe: what its records mean, one after the other, and what is refused.
-use Prim.Native.Nat.{ℕ, zero, suc, _+_, _*_}
+use Prim.Native.Nat.{ℕ, zero, suc, _+_, _-_, _*_}
 use mathlib.Core.List.{List, [], _∷_, _++_}
 use mathlib.Core.Bool.{Bool, true, false, not}
 use mathlib.Core.Option.{Option, none, some}
 use lib.ListN.{length, take, drop, replicate, set}
 use lib.Dec.{eqb, leb, ltb}
-use Rattle.format.specs.Bytes.{pick, all, firstOf, find, Answer, refused, given, andThen, orRefused, unless, at, part}
+use Rattle.format.specs.Bytes.{pick, both, all, firstOf, find, Answer, refused, given, andThen, orRefused, unless, at, part}
 use Rattle.format.specs.Layout.{width, fields, refsGood}
 use Rattle.format.specs.Table.{Table, tables, code, front, limit, Head, headOf}
-use Rattle.format.specs.Form.{Form, processor, cache, memory, acpi, pci, rintc, domain, matrix, side, ranges}
+use Rattle.format.specs.Form.{Form, processor, cache, memory, acpi, pci, rintc, domain, matrix, side, bridge, window, xor, registers, ways, ranges}
 use Rattle.format.specs.Node.{Node, node, sizes, starts, isOrdinal, atOrdinal}
-use Rattle.format.specs.Kind.{Kind, Processor, Resource, Cache, Memory, Acpi, Pci, Rintc, Domain, Matrix, Initiator, Target, Cell, Side, Handle, kindOf, body}
+use Rattle.format.specs.Kind.{Kind, Processor, Resource, Cache, Memory, Acpi, Pci, Rintc, Domain, Matrix, Initiator, Target, Cell, Side, Handle, Bridge, Window, WindowTarget, Xor, Map, kindNumber, kindOf, isKind, body}
 use Rattle.format.specs.Field.{badIn}
 
 -- ---- cutting
@@ -60,16 +60,15 @@ changes rs full n ns = record { placed = true; ranges = rs; earlier = ns; full =
 abbrev pub stray : Step
 stray = record { placed = false; ranges = []; earlier = []; full = false; nodes = [] }
 
--- the newest node, if a record can join it: its counts, its fields, and the nodes before it
+-- the newest node, if a record can join it: its fields, and the nodes before it
 pub data Newest : Type 0 where
-  aProcessor : ℕ → List ℕ → List Node → Newest
-  aMatrix : ℕ → ℕ → List ℕ → List Node → Newest
-  aSide : ℕ → List ℕ → List Node → Newest
+  aList : Kind → (least most has : ℕ) → (more : Form) → List ℕ → List Node → Newest  -- the kind of its list's records, how many it needs, takes and has, and its form with one more
+  aMatrix : ℕ → ℕ → List ℕ → List Node → Newest  -- I by T
   other : Newest
 
 -- the node of this form and fields, in front of ns
 abbrev pub newestAs : Form → List ℕ → List Node → Newest
-newestAs (processor n) us ns = aProcessor n us ns
+newestAs (processor n) us ns = aList Resource 0 58 n (processor (suc n)) us ns
 newestAs cache us ns = other
 newestAs memory us ns = other
 newestAs acpi us ns = other
@@ -77,32 +76,26 @@ newestAs pci us ns = other
 newestAs rintc us ns = other
 newestAs domain us ns = other
 newestAs (matrix i t) us ns = aMatrix i t us ns
-newestAs (side n) us ns = aSide n us ns
+newestAs (side n) us ns = aList Handle 0 65535 n (side (suc n)) us ns
+newestAs (bridge n) us ns = other
+newestAs (window n) us ns = aList WindowTarget n n (length us - 7) (window n) us ns
+newestAs (xor n) us ns = aList Map 0 255 n (xor (suc n)) us ns
 
 -- the first of the list
 abbrev pub newest : List Node → Newest
 newest [] = other
 newest (n ∷ ns) = newestAs (n .form) (n .values) ns
 
--- a processor takes 58 resources
-unfoldable pub resource : List ℕ → Newest → Step
-resource vs (aProcessor n us ns) = changes [] (leb 58 n) (node (processor (suc n)) (us ++ vs)) ns
-resource vs (aMatrix i t us ns) = stray
-resource vs (aSide n us ns) = stray
-resource vs other = stray
-
--- a side cache takes 65,535 handles
-unfoldable pub handle : List ℕ → Newest → Step
-handle vs (aProcessor n us ns) = stray
-handle vs (aMatrix i t us ns) = stray
-handle vs (aSide n us ns) = changes [] (leb 65535 n) (node (side (suc n)) (us ++ vs)) ns
-handle vs other = stray
+-- a record of kind k joins the newest node's list, if that takes its kind
+unfoldable pub joined : Kind → List ℕ → Newest → Step
+joined k vs (aList j least most n f us ns) = pick (eqb (kindNumber k) (kindNumber j)) (changes [] (leb most n) (node f (us ++ vs)) ns) stray
+joined k vs (aMatrix i t us ns) = stray
+joined k vs other = stray
 
 -- of an I by T matrix: tests of the indices, the field to set, and its number
 unfoldable pub setting : (ℕ → ℕ → List Bool) → (ℕ → ℕ → ℕ) → ℕ → Newest → Step
-setting tests field v (aProcessor n us ns) = stray
+setting tests field v (aList j least most n f us ns) = stray
 setting tests field v (aMatrix i t us ns) = changes (tests i t) false (node (matrix i t) (set us (field i t) v)) ns
-setting tests field v (aSide n us ns) = stray
 setting tests field v other = stray
 
 -- a matrix has 4 fields, then I values, T values, and I times T cells
@@ -112,7 +105,7 @@ unset i t vs = take 4 vs ++ (replicate (i + t) 0 ++ replicate (i * t) 65535)
 -- what a record of each kind does; vs: its fields
 unfoldable pub step : Kind → List ℕ → List Node → Step
 step Processor vs ns = makes [] (node (processor 0) vs) ns
-step Resource vs ns = resource vs (newest ns)
+step Resource vs ns = joined Resource vs (newest ns)
 step Cache vs ns = makes (ranges cache vs) (node cache vs) ns
 step Memory vs ns = makes (ranges memory vs) (node memory vs) ns
 step Acpi vs ns = makes (ranges acpi vs) (node acpi vs) ns
@@ -127,7 +120,16 @@ step Initiator vs ns = setting (λ i t. ltb (at vs 0) i ∷ []) (λ i t. 4 + at 
 step Target vs ns = setting (λ i t. ltb (at vs 0) t ∷ []) (λ i t. 4 + i + at vs 0) (at vs 1) (newest ns)
 step Cell vs ns = setting (λ i t. ltb (at vs 0) i ∷ ltb (at vs 1) t ∷ []) (λ i t. 4 + i + t + at vs 0 * t + at vs 1) (at vs 2) (newest ns)
 step Side vs ns = makes (ranges (side 0) vs) (node (side 0) vs) ns
-step Handle vs ns = handle vs (newest ns)
+step Handle vs ns = joined Handle vs (newest ns)
+step Bridge vs ns =
+    let n : ℕ = registers (at vs 1) in
+    makes (ranges (bridge n) vs) (node (bridge n) vs) ns
+step Window vs ns =
+    let n : ℕ = ways (at vs 2) in
+    makes (ranges (window n) vs) (node (window n) vs) ns
+step WindowTarget vs ns = joined WindowTarget vs (newest ns)
+step Xor vs ns = makes (ranges (xor 0) vs) (node (xor 0) vs) ns
+step Map vs ns = joined Map vs (newest ns)
 
 -- the nodes with one record more
 abbrev pub added : Kind → List ℕ → List Node → List Node
@@ -163,14 +165,21 @@ means h ns = record { head = h; nodes = ns }
 abbrev pub since : List Node → List Node → ℕ → ℕ → ℕ
 since ns more p q = pick (eqb (length more) (length ns)) q p
 
+-- 11 where the newest node's list lacks a record, and what comes is none of its kind; o: the kind that comes, if any
+unfoldable pub lacking : Newest → Option Kind → ℕ
+lacking (aList j least most n f us ns) o = pick (both (ltb n least) (not (isKind j o))) 11 0
+lacking (aMatrix i t us ns) o = 0
+lacking other o = 0
+
 -- q: the place of the newest node's record
 unfoldable pub run : Head → ℕ → List Node → Calls → Answer Meaning
-run h q ns done = given (means h ns)
-run h q ns (badKind p) = refused 2 p
-run h q ns (cutOff p k) = refused 3 p
+run h q ns done = unless (lacking (newest ns) none) q (given (means h ns))
+run h q ns (badKind p) = unless (lacking (newest ns) none) q (refused 2 p)
+run h q ns (cutOff p k) = unless (lacking (newest ns) (some k)) q (refused 3 p)
 run h q ns (called p k vs rest) =
     let n : ℕ = fault (h .table) ns k vs in
-    unless n (p + faultAt n k (step k vs ns .ranges)) (run h (since ns (added k vs ns) p q) (added k vs ns) rest)
+    unless (lacking (newest ns) (some k)) q
+    (unless n (p + faultAt n k (step k vs ns .ranges)) (run h (since ns (added k vs ns) p q) (added k vs ns) rest))
 
 -- the table of a head's code
 abbrev pub tableOf : ℕ → Option Table
@@ -182,6 +191,6 @@ headed r =
     unless (firstOf ((not (eqb (at r 0) 1), 1) ∷ (ltb (length r) 28, 3) ∷ [])) 0
     (andThen (orRefused 5 1 (tableOf (at r 1))) (λ t. given (headOf t (part r 2 26))))
 
--- what a recipe means, or refusal 1 to 8 or 10
+-- what a recipe means, or refusal 1 to 8, 10, 11
 unfoldable pub meaning : List ℕ → Answer Meaning
 meaning r = andThen (headed r) (λ h. run h 0 [] (cut (h .table) 0 28 (drop 28 r)))

@@ -6,12 +6,12 @@ use mathlib.Core.Option.{Option, none, some}
 use lib.ListN.{length}
 use lib.Dec.{eqb, leb}
 use Rattle.format.specs.Bytes.{pick, all, find, at, value, part}
-use Rattle.format.specs.Table.{Table, pptt, srat, hmat, revision}
-use Rattle.format.specs.Form.{Form, processor, cache, memory, acpi, pci, rintc, domain, matrix, side}
+use Rattle.format.specs.Table.{Table, pptt, srat, hmat, cedt, revision}
+use Rattle.format.specs.Form.{Form, processor, cache, memory, acpi, pci, rintc, domain, matrix, side, bridge, window, xor, registers, ways}
 
 -- the rows of the table of layouts
 pub data Row : Type 0 where
-  processors caches memories initiators rintcs domains matrices sides : Row
+  processors caches memories initiators rintcs domains matrices sides bridges windows xors : Row
 
 -- their numbers
 abbrev pub rowNumber : Row → ℕ
@@ -23,12 +23,16 @@ rowNumber rintcs = 4
 rowNumber domains = 5
 rowNumber matrices = 6
 rowNumber sides = 7
+rowNumber bridges = 8
+rowNumber windows = 9
+rowNumber xors = 10
 
 -- the rows of each table
 abbrev pub rows : Table → List Row
 rows pptt = processors ∷ caches ∷ []
 rows srat = memories ∷ initiators ∷ rintcs ∷ []
 rows hmat = domains ∷ matrices ∷ sides ∷ []
+rows cedt = bridges ∷ windows ∷ xors ∷ []
 
 -- the table whose signature the row names
 abbrev pub home : Row → Table
@@ -40,6 +44,9 @@ home rintcs = srat
 home domains = hmat
 home matrices = hmat
 home sides = hmat
+home bridges = cedt
+home windows = cedt
+home xors = cedt
 
 -- the type that the row names
 abbrev pub rowType : Row → ℕ
@@ -51,6 +58,9 @@ rowType rintcs = 7
 rowType domains = 0
 rowType matrices = 1
 rowType sides = 2
+rowType bridges = 0
+rowType windows = 1
+rowType xors = 2
 
 -- the Length column, of a record's bytes
 unfoldable pub column : Row → List ℕ → Bool
@@ -62,6 +72,9 @@ column rintcs bs = eqb (length bs) 16
 column domains bs = eqb (length bs) 40
 column matrices bs = all (leb 32 (length bs) ∷ leb (value (part bs 12 4)) 255 ∷ leb (value (part bs 16 4)) 255 ∷ [])
 column sides bs = leb 32 (length bs)
+column bridges bs = eqb (length bs) 32
+column windows bs = leb 40 (length bs)
+column xors bs = leb 8 (length bs)
 
 -- a row of the table matches on revision, type and Length column
 unfoldable pub matches : ℕ → ℕ → List ℕ → Row → Bool
@@ -71,7 +84,7 @@ matches rev ty bs r = all (eqb rev (revision (home r)) ∷ eqb ty (rowType r) �
 unfoldable pub rowOf : Table → ℕ → ℕ → List ℕ → Option Row
 rowOf t rev ty bs = find (matches rev ty bs) (rows t)
 
--- the form of a record of a row: its inner counts, or its handle
+-- the form of a record of a row: its inner counts, what its fields settle, or its handle
 unfoldable pub formIn : Row → List ℕ → Form
 formIn processors bs = processor ((length bs - 20) / 4)
 formIn caches bs = cache
@@ -81,6 +94,9 @@ formIn rintcs bs = rintc
 formIn domains bs = domain
 formIn matrices bs = matrix (value (part bs 12 4)) (value (part bs 16 4))
 formIn sides bs = side (value (part bs 30 2))
+formIn bridges bs = bridge (registers (value (part bs 8 4)))
+formIn windows bs = window (ways (value (part bs 24 1)))
+formIn xors bs = xor (value (part bs 7 1))
 
 -- ---- the mask of known rows
 

@@ -10,7 +10,7 @@ use lib.Seq.{drop-drop, length-take-le, take-take}
 use lib.Dec.{eqb, leb, ltb}
 use borrow.Author.Tests.{eq-eqb, ne-eqb, eqb-true, le-leb, leb-true, leb-false, lt-ltb, le-ltb, ltb-true, ltb-false}
 use Rattle.format.specs.Bytes.{pick, part}
-use Rattle.format.specs.Table.{Table, pptt, srat, hmat, front, frame, least}
+use Rattle.format.specs.Table.{Table, pptt, srat, hmat, cedt, front, frame, least}
 use Rattle.format.specs.Node.{Entry, entry, atPlace}
 use Rattle.format.specs.Read.{typeIn, sizeIn, framed, Frames, ended, badFrame, framedAt, frames}
 use Rattle.laws.proofs.Lays.{both-true}
@@ -27,6 +27,7 @@ pub least-two : (t : Table) → 2 ≤ least t
 least-two pptt = omega arith
 least-two srat = omega arith
 least-two hmat = omega arith
+least-two cedt = omega arith
 
 -- the record that a frame holds
 pub record Framed (t : Table) (bs : List ℕ) : Type 0 where
@@ -48,6 +49,7 @@ type-first : (t : Table) → frame t .type ≤ least t
 type-first pptt = omega arith
 type-first srat = omega arith
 type-first hmat = omega arith
+type-first cedt = omega arith
 
 -- a record's type is that of the bytes from its place on
 pub type-in : (t : Table) (bs : List ℕ) → framed t bs ≡ true → typeIn t (recordIn t bs) ≡ typeIn t bs

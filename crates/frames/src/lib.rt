@@ -113,6 +113,9 @@ pub fn signed(table: &[u8]) -> Spelled
     if same(name, b"HMAT") {
         return Spelled::Table(Table::Hmat);
     }
+    if same(name, b"CEDT") {
+        return Spelled::Table(Table::Cedt);
+    }
     Spelled::Other
 }
 
@@ -136,6 +139,7 @@ fn tail_stands(t: Table, table: &[u8]) -> bool
             field::get_u64(table, 40) == 0
         }
         Table::Hmat => field::get_u32(table, 36) == 0,
+        Table::Cedt => true,
     }
 }
 
@@ -190,10 +194,11 @@ fn least(t: Table) -> usize
         Table::Pptt => 2,
         Table::Srat => 2,
         Table::Hmat => 8,
+        Table::Cedt => 4,
     }
 }
 
-// The type in a frame of PPTT or SRAT, and in one of HMAT.
+// The type in a frame of PPTT, SRAT or CEDT, and in one of HMAT.
 pub fn short_type(s: &[u8]) -> u8
     ensures { λ r. ⌜ r ≡ value (part (now (s .entry)) 0 1) ⌝ }
 {
@@ -214,6 +219,7 @@ pub fn type_in(t: Table, s: &[u8]) -> u16
         Table::Pptt => short_type(s) as u16,
         Table::Srat => short_type(s) as u16,
         Table::Hmat => long_type(s),
+        Table::Cedt => short_type(s) as u16,
     }
 }
 
@@ -225,6 +231,7 @@ fn size_in(t: Table, s: &[u8]) -> usize
         Table::Pptt => field::get_u8(s, 1) as usize,
         Table::Srat => field::get_u8(s, 1) as usize,
         Table::Hmat => field::get_u32(s, 4) as usize,
+        Table::Cedt => field::get_u16(s, 2) as usize,
     }
 }
 
@@ -261,6 +268,7 @@ fn size_at(t: Table, c: &[u8], p: usize) -> u32
         Table::Pptt => c[p + 1] as u32,
         Table::Srat => c[p + 1] as u32,
         Table::Hmat => field::get_u32(c, p + 4),
+        Table::Cedt => field::get_u16(c, p + 2) as u32,
     }
 }
 

@@ -6,7 +6,7 @@ use native.Mathlib.Omega.{arith}
 use lib.ListN.{length, length-append}
 use Rattle.format.specs.Bytes.{le}
 use Rattle.format.specs.Layout.{lay}
-use Rattle.format.specs.Table.{pptt, srat, hmat, code, front, tail, told, headOf}
+use Rattle.format.specs.Table.{pptt, srat, hmat, cedt, code, front, tail, told, headOf}
 use Rattle.format.specs.Table as format
 use Rattle.format.specs.Build.{header}
 use Rattle.laws.proofs.Bytes.{length-le}
@@ -30,12 +30,14 @@ pub front-small : (t : format.Table) → front t ≤ 48
 front-small pptt = omega arith
 front-small srat = omega arith
 front-small hmat = omega arith
+front-small cedt = omega arith
 
 -- a front has the header's bytes
 pub front-long : (t : format.Table) → 36 ≤ front t
 front-long pptt = omega arith
 front-long srat = omega arith
 front-long hmat = omega arith
+front-long cedt = omega arith
 
 -- a table's number is one byte of a head
 pub code-byte : (t : format.Table) → le 1 (code t) ≡ code t ∷ []
@@ -43,3 +45,4 @@ unfolding le
 code-byte pptt = refl
 code-byte srat = refl
 code-byte hmat = refl
+code-byte cedt = refl

@@ -6,7 +6,7 @@ use Rattle.laws.specs.Unique.{Fixes}
 use Rattle.laws.proofs.Sole.{sole, sole-meant}
 use Rattle.header.specs.declared.Checksum.{Checksum}
 use Rattle.header.specs.declared.Table.{Table}
-use Rattle.header.specs.declared.Table.the-variants.{Pptt, Srat, Hmat}
+use Rattle.header.specs.declared.Table.the-variants.{Pptt, Srat, Hmat, Cedt}
 use Rattle.header.specs.declared.TableHeader.{TableHeader}
 use Rattle.header.specs.Header.{meant, tableNamed, headerBytes, Sized, headerOf}
 use Rattle.header.proofs.limit.Reads as limit
@@ -35,6 +35,7 @@ pub table-back : (t : Table) → tableNamed (meant t) ≡ t
 table-back Pptt = refl
 table-back Srat = refl
 table-back Hmat = refl
+table-back Cedt = refl
 
 -- `Checksum`'s functions
 one-sum : (a b : Checksum) (n : ℕ) → a .value ≡ n → b .value ≡ n → a ≡ b

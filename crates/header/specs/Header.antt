@@ -4,10 +4,10 @@ use Prim.Native.Nat.{ℕ}
 use mathlib.Core.List.{List, _∷_, _++_}
 use lib.ListN.{length, drop, replicate}
 use Rattle.format.specs.Bytes.{le, value, part, over}
-use Rattle.format.specs.Table.{pptt, srat, hmat, sign, revision, front}
+use Rattle.format.specs.Table.{pptt, srat, hmat, cedt, sign, revision, front}
 use Rattle.format.specs.Table as format
 use Rattle.header.specs.declared.Table.{Table}
-use Rattle.header.specs.declared.Table.the-variants.{Pptt, Srat, Hmat}
+use Rattle.header.specs.declared.Table.the-variants.{Pptt, Srat, Hmat, Cedt}
 use Rattle.header.specs.declared.TableHeader.{TableHeader}
 
 -- the table that a variant stands for
@@ -15,12 +15,14 @@ abbrev pub meant : Table → format.Table
 meant Pptt = pptt
 meant Srat = srat
 meant Hmat = hmat
+meant Cedt = cedt
 
 -- the variant that stands for a table
 abbrev pub tableNamed : format.Table → Table
 tableNamed pptt = Pptt
 tableNamed srat = Srat
 tableNamed hmat = Hmat
+tableNamed cedt = Cedt
 
 -- the 26 bytes that a head gives
 unfoldable pub identity : TableHeader → List ℕ

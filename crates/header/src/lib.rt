@@ -83,6 +83,7 @@ pub enum Table {
     Pptt,
     Srat,
     Hmat,
+    Cedt,
 }
 
 impl Table {
@@ -92,11 +93,15 @@ impl Table {
 
     pub const HMAT_FRONT: usize = 40;
 
+    pub const CEDT_FRONT: usize = 36;
+
     pub const PPTT_REVISION: u8 = 3;
 
     pub const SRAT_REVISION: u8 = 3;
 
     pub const HMAT_REVISION: u8 = 1;
+
+    pub const CEDT_REVISION: u8 = 1;
 
     // The numbers in a head.
     pub const PPTT_CODE: u8 = 0;
@@ -105,6 +110,8 @@ impl Table {
 
     pub const HMAT_CODE: u8 = 2;
 
+    pub const CEDT_CODE: u8 = 3;
+
     fn code(self) -> u8
         ensures { λ r. ⌜ r ≡ code (meant self) ⌝ }
     {
@@ -112,6 +119,7 @@ impl Table {
             Table::Pptt => Self::PPTT_CODE,
             Table::Srat => Self::SRAT_CODE,
             Table::Hmat => Self::HMAT_CODE,
+            Table::Cedt => Self::CEDT_CODE,
         }
     }
 
@@ -122,6 +130,7 @@ impl Table {
             Table::Pptt => *b"PPTT",
             Table::Srat => *b"SRAT",
             Table::Hmat => *b"HMAT",
+            Table::Cedt => *b"CEDT",
         }
     }
 
@@ -132,6 +141,7 @@ impl Table {
             Table::Pptt => Self::PPTT_REVISION,
             Table::Srat => Self::SRAT_REVISION,
             Table::Hmat => Self::HMAT_REVISION,
+            Table::Cedt => Self::CEDT_REVISION,
         }
     }
 
@@ -143,6 +153,7 @@ impl Table {
             Table::Pptt => Self::PPTT_FRONT,
             Table::Srat => Self::SRAT_FRONT,
             Table::Hmat => Self::HMAT_FRONT,
+            Table::Cedt => Self::CEDT_FRONT,
         }
     }
 }
@@ -312,5 +323,6 @@ pub fn put_front(table: Table, out: &mut [u8])
             field::put_u64(out, TableHeader::LEN + 4, 0);
         }
         Table::Hmat => field::put_u32(out, TableHeader::LEN, 0),
+        Table::Cedt => {}
     }
 }

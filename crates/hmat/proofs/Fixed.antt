@@ -1,5 +1,5 @@
 -- The tests of a record: zeros, fixed values and length of a matrix and of a side cache as a list of tests, and the ranges of their first fields.
-use mathlib.Core.Path.{_≡_, refl, ap}
+use mathlib.Core.Path.{_≡_, refl}
 use Prim.Native.Nat.{ℕ, _<_, min}
 use mathlib.Core.List.{List, [], _∷_}
 use mathlib.Core.Bool.{true, false}
@@ -8,14 +8,14 @@ use lib.Dec.{eqb}
 use borrow.Author.Tests.{eq-eqb, ne-eqb}
 use Rattle.format.specs.Bytes.{all, value, part}
 use Rattle.format.specs.Layout.{fld, asIs, fixedOk}
-use Rattle.format.specs.Form.{Form, layout, size, ranges}
-use Rattle.format.specs.Node.{Node, nodeAt}
+use Rattle.format.specs.Form.{layout, size, ranges}
+use Rattle.format.specs.Node.{nodeAt}
 use Rattle.format.specs.Row.{matrices, sides, formIn}
 use Rattle.format.specs.Field.{badField}
+use Rattle.laws.specs.Offsets.{trimmed}
 use Rattle.laws.proofs.Tests.{both-right}
 use Rattle.laws.proofs.Offsets.{fixed-list, fixed-append, node-at}
 use Rattle.laws.proofs.Fields.{fixed-now}
-use Rattle.hmat.specs.Hmat.{trimmed}
 
 -- ---- what a test of code says of the test that it stands for
 
@@ -40,11 +40,6 @@ pub side-fixed : (bs : List ℕ)
     ≡ all (eqb (value (part bs 0 2)) 2 ∷ eqb (value (part bs 2 2)) 0 ∷ eqb (value (part bs 4 4)) (size (formIn sides bs)) ∷ eqb (value (part bs 12 4)) 0 ∷ eqb (value (part bs 28 2)) 0 ∷ [])
 unfolding formIn layout
 side-fixed bs = rw (fixed-now, eq-eqb (value (part bs 30 2)) _ refl, fixed-list (fld 2) (λ x. refl), both-right)
-
--- the form of a node that is known by its first fields
-pub form-known : {x : Node} (n : ℕ) (f : Form) (bs : List ℕ) → x ≡ trimmed n (nodeAt asIs f bs) → x .form ≡ f
-unfolding nodeAt
-form-known n f bs e = ap (λ (z : Node). z .form) e
 
 -- ---- ranges: no field behind the first ones has one
 

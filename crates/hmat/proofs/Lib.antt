@@ -1,4 +1,3 @@
-pub mod Places
 pub mod Flags
 pub mod Matrices
 pub mod Sides

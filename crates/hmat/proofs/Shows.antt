@@ -1,23 +1,17 @@
 -- What a reading call shows of a node is what `shown` of the format says of any node with the same form and the same fields before its list.
-use mathlib.Core.Path.{_≡_, sym, ap}
-use Prim.Native.Nat.{ℕ}
+use mathlib.Core.Path.{_≡_}
 use native.Mathlib.Omega.{arith}
-use lib.ListN.{take}
 use lib.Seq.{take-take}
 use Rattle.format.specs.Bytes.{part}
 use Rattle.format.specs.Node.{Node}
 use Rattle.format.specs.Read.{shown}
+use Rattle.laws.specs.Offsets.{trimmed}
 use Rattle.laws.proofs.Bytes.{part-take}
+use Rattle.laws.proofs.Offsets.{form-of, first-of}
 use Rattle.hmat.specs.declared.MemoryProximityDomain.{MemoryProximityDomain}
 use Rattle.hmat.specs.declared.SystemLocality.{SystemLocality}
 use Rattle.hmat.specs.declared.MemorySideCache.{MemorySideCache}
-use Rattle.hmat.specs.Hmat.{trimmed, domainShown, domainNode, matrixHead, matrixShown, sideHead, sideShown}
-
-form-of : (x y : Node) (n : ℕ) → x ≡ trimmed n y → y .form ≡ x .form
-form-of x y n e = sym (ap (λ (z : Node). z .form) e)
-
-first-of : (x y : Node) (n : ℕ) → x ≡ trimmed n y → take n (y .values) ≡ x .values
-first-of x y n e = sym (ap (λ (z : Node). z .values) e)
+use Rattle.hmat.specs.Hmat.{domainShown, domainNode, matrixHead, matrixShown, sideHead, sideShown}
 
 pub shown-domain : (d : MemoryProximityDomain) (x : Node) → domainNode d ≡ x → domainShown d ≡ shown (x .form) (x .values)
 unfolding shown

@@ -19,10 +19,6 @@ use Rattle.hmat.specs.declared.Associativity.{Associativity}
 use Rattle.hmat.specs.declared.WritePolicy.{WritePolicy}
 use Rattle.hmat.specs.Numbers.{dataTypeNumber, transferNumber, localityNumber, levelNumber, associativityNumber, policyNumber}
 
--- a node with the first n of its fields alone
-abbrev pub trimmed : ℕ → Node → Node
-trimmed n x = node (x .form) (take n (x .values))
-
 -- ---- domains
 
 abbrev pub domainOf : ℕ → ℕ → MemoryProximityDomain

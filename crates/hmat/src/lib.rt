@@ -17,25 +17,10 @@ ghost use Rattle.format.specs.Normal.{call, callsOfNode};
 ghost use Rattle.format.specs.Field.{badIn, badField};
 ghost use Rattle.format.specs.Row.{matrices, sides, column, formIn};
 ghost use Rattle.format.specs.Read.{sound};
+ghost use Rattle.laws.specs.Offsets.{trimmed};
 ghost use Rattle.hmat.specs.Numbers.{dataTypeNumber, transferNumber, localityNumber, levelNumber, associativityNumber, policyNumber};
-ghost use Rattle.hmat.specs.Hmat.{domainOf, domainShown, domainNode, matrixOf, matrixWith, matrixForm, matrixHead, matrixFront, matrixUnset, matrixNode, matrixShown, sideOf, sideForm, sideFields, sideHead, sideFront, sideShown, trimmed, grown, matrixCall};
+ghost use Rattle.hmat.specs.Hmat.{domainOf, domainShown, domainNode, matrixOf, matrixWith, matrixForm, matrixHead, matrixFront, matrixUnset, matrixNode, matrixShown, sideOf, sideForm, sideFields, sideHead, sideFront, sideShown, grown, matrixCall};
 ghost use Rattle.hmat.specs.Settings.{valueFields, valueCall, cellFields, goodCell, handleFields};
-
-// No slice is longer, so nothing stands at this place.
-const NOWHERE: usize = 18446744073709551615;
-
-// The place k steps of w bytes behind another, or NOWHERE where that is past what a usize can name.
-fn behind(at: usize, w: usize, k: usize) -> usize
-    ensures { λ r. ⌜ r ≡ min (at + w * k) (2 ^ 64 - 1) ⌝ }
-{
-    if w == 0 {
-        return at;
-    }
-    if (NOWHERE - at) / w < k {
-        return NOWHERE;
-    }
-    at + w * k
-}
 
 // ---- row 5
 
@@ -372,7 +357,7 @@ impl SystemLocality {
         ensures { λ r. ⌜ r ≡ min (size (matrixForm self)) (2 ^ 64 - 1) ⌝ }
     {
         let cells = Self::target_place(0, self.initiators as usize, self.targets as usize);
-        behind(cells, Cell::LEN, self.cells())
+        field::behind(cells, Cell::LEN, self.cells())
     }
 
     // A number whose low four bytes are those of the length.
@@ -410,8 +395,8 @@ impl SystemLocality {
         ensures { λ _. ⌜ now (out .exit) ≡ over (now (out .entry)) at (matrixUnset self) ⌝ }
     {
         let values = Value::LEN * (self.initiators as usize + self.targets as usize);
-        let cells = behind(0, Cell::LEN, self.cells());
-        let first = behind(at, values, 1);
+        let cells = field::behind(0, Cell::LEN, self.cells());
+        let first = field::behind(at, values, 1);
         // its two bytes are alike
         let unset = (Self::UNREACHABLE_DOMAIN % 256) as u8;
         field::fill(out, at, values, 0);
@@ -422,7 +407,7 @@ impl SystemLocality {
     pub fn put(self, out: &mut [u8], at: usize)
         ensures { λ _. ⌜ now (out .exit) ≡ over (now (out .entry)) at (bytes asIs (matrixNode self)) ⌝ }
     {
-        let values = behind(at, Self::LEN, 1);
+        let values = field::behind(at, Self::LEN, 1);
         self.put_front(out, at);
         self.put_unset(out, values);
     }
@@ -431,13 +416,13 @@ impl SystemLocality {
     pub fn initiator_place(at: usize, idx: usize) -> usize
         ensures { λ r. ⌜ r ≡ min (at + 32 + 4 * idx) (2 ^ 64 - 1) ⌝ }
     {
-        behind(behind(at, Self::LEN, 1), Value::LEN, idx)
+        field::behind(field::behind(at, Self::LEN, 1), Value::LEN, idx)
     }
 
     pub fn target_place(at: usize, initiators: usize, idx: usize) -> usize
         ensures { λ r. ⌜ r ≡ min (at + 32 + 4 * initiators + 4 * idx) (2 ^ 64 - 1) ⌝ }
     {
-        behind(Self::initiator_place(at, initiators), Value::LEN, idx)
+        field::behind(Self::initiator_place(at, initiators), Value::LEN, idx)
     }
 
     pub fn cell_place(at: usize, initiators: u32, targets: u32, i: u32, t: u32) -> usize
@@ -455,7 +440,7 @@ impl SystemLocality {
     pub fn entry_place(cells: usize, targets: u32, i: u32, t: u32) -> usize
         ensures { λ r. ⌜ r ≡ min (cells + 2 * (i * targets + t)) (2 ^ 64 - 1) ⌝ }
     {
-        behind(cells, Cell::LEN, i as usize * targets as usize + t as usize)
+        field::behind(cells, Cell::LEN, i as usize * targets as usize + t as usize)
     }
 
     // Sets a value of the matrix at a place.
@@ -953,7 +938,7 @@ impl MemorySideCache {
     fn handle_place(at: usize, i: usize) -> usize
         ensures { λ r. ⌜ r ≡ min (at + 32 + 2 * i) (2 ^ 64 - 1) ⌝ }
     {
-        behind(behind(at, Self::LEN, 1), SmbiosHandle::LEN, i)
+        field::behind(field::behind(at, Self::LEN, 1), SmbiosHandle::LEN, i)
     }
 
     // Writes a handle of the side cache at a place.
@@ -971,10 +956,10 @@ impl MemorySideCache {
         let more = n as u32 + 1;
         field::put_u32(
             out,
-            behind(at, 4, 1),
+            field::behind(at, 4, 1),
             Self::LEN as u32 + SmbiosHandle::LEN as u32 * more,
         );
-        field::put_u16(out, behind(at, 30, 1), (more % 65536) as u16);
+        field::put_u16(out, field::behind(at, 30, 1), (more % 65536) as u16);
         Self::put_handle(out, at, n as usize, handle.0);
     }
 

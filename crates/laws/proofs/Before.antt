@@ -1,25 +1,29 @@
--- What a recipe means has not moved, but for the place of 5 and the split of 6: record by record, since of the two lists of faults one has a line more.
+-- What a recipe of the older tables means has not moved, but for the place of 5 and the split of 6: record by record, since of the two lists of faults one has a line more, and no node of these tables lacks an entry.
 use mathlib.Core.Path.{_≡_, refl, sym, _∙_}
-use Prim.Native.Nat.{ℕ, _+_, _<_}
-use mathlib.Core.List.{List, [], _∷_}
+use Prim.Native.Nat.{ℕ, zero, suc, _+_, _<_}
+use mathlib.Core.List.{List, [], _∷_, _++_}
 use mathlib.Core.Bool.{Bool, true, false, not}
 use mathlib.Core.Option.{Option, none, some}
 use native.Mathlib.Nat.{add-zero}
 use native.Mathlib.Omega.{arith}
 use lib.ListN.{length, drop}
 use lib.Dec.{eqb, ltb}
-use borrow.Author.Tests.{eqb-false}
+use borrow.Author.Tests.{ne-eqb, eqb-false}
 use Rattle.format.specs.Bytes.{pick, all, firstOf, Answer, given, andThen, orRefused, unless, at, part}
-use Rattle.format.specs.Layout.{refsGood}
-use Rattle.format.specs.Table.{Table, front, limit, Head, headOf}
+use Rattle.format.specs.Layout.{width, fields, refsGood}
+use Rattle.format.specs.Table.{Table, pptt, srat, hmat, cedt, code, front, limit, Head, headOf}
+use Rattle.format.specs.Form.{processor, side}
 use Rattle.format.specs.Node.{Node, sizes, starts, isOrdinal, atOrdinal}
-use Rattle.format.specs.Kind.{Kind, body}
+use Rattle.format.specs.Kind.{Kind, Processor, Resource, Cache, Memory, Acpi, Pci, Rintc, Domain, Matrix, Initiator, Target, Cell, Side, Handle, Bridge, Window, WindowTarget, Xor, Map, kindOf, body}
 use Rattle.format.specs.Field.{badIn}
-use Rattle.format.specs.Recipe.{Calls, done, badKind, cutOff, called, cut, step, added, fault, faultAt, since, run, tableOf, headed, meaning}
-use Rattle.laws.specs.Before.{faultBefore, runBefore, headedBefore, meaningBefore, Moves, good, same, field, kind, Stays}
-use Rattle.laws.proofs.Finds.{never}
+use Rattle.format.specs.Recipe.{Calls, done, badKind, cutOff, called, cutAs, skip, cut, Newest, aList, aMatrix, other, newest, joined, setting, step, added, fault, faultAt, since, lacking, run, tableOf, headed, meaning}
+use Rattle.laws.specs.Before.{faultBefore, runBefore, tableBefore, headedBefore, meaningBefore, Moves, good, same, field, kind, Stays}
+use Rattle.laws.proofs.Finds.{never, found-in}
 use Rattle.laws.proofs.Fields.{all-bad}
 use Rattle.laws.proofs.Links.{refs-backward}
+use Rattle.laws.proofs.Grows.{View, seesProcessor, seesMatrix, seesSide, seesWindow, seesXor, seesOther, view, needless, kindHome}
+use Rattle.laws.proofs.Builds.{other-table, kind-home}
+use Rattle.laws.proofs.Calls.{Free}
 
 module _ {A : Type 0} where
   -- of one record: where it is good, the rest moves as it does
@@ -39,26 +43,116 @@ module _ {A : Type 0} where
 bad-behind : (k : Kind) (ts : List Bool) → all ts ≡ false → 0 < badIn k ts
 bad-behind k ts e = omega (arith, eqb-false (badIn k ts) 0 (sym (all-bad 1 (body k) ts (omega arith)) ∙ e))
 
-moves-run : (h : Head) (q : ℕ) (ns : List Node) (cs : Calls) → Moves (runBefore h ns cs) (run h q ns cs)
+-- ---- the older tables
+
+-- no node lacks nothing
+lacks-other : Free []
+unfolding lacking
+lacks-other o = refl
+
+-- a list that needs no entry lacks none, whatever joined it
+resource-free : (vs : List ℕ) {ns : List Node} {x : Newest} → View ns x → Free (joined Resource vs x .nodes)
+unfolding joined
+resource-free vs (seesProcessor {n} {us} {ns}) o = needless Resource 58 (suc n) (processor (suc (suc n))) (us ++ vs) ns o
+resource-free vs seesMatrix o = lacks-other o
+resource-free vs seesSide o = lacks-other o
+resource-free vs seesWindow o = lacks-other o
+resource-free vs seesXor o = lacks-other o
+resource-free vs seesOther o = lacks-other o
+
+handle-free : (vs : List ℕ) {ns : List Node} {x : Newest} → View ns x → Free (joined Handle vs x .nodes)
+unfolding joined
+handle-free vs seesProcessor o = lacks-other o
+handle-free vs seesMatrix o = lacks-other o
+handle-free vs (seesSide {n} {us} {ns}) o = needless Handle 65535 (suc n) (side (suc (suc n))) (us ++ vs) ns o
+handle-free vs seesWindow o = lacks-other o
+handle-free vs seesXor o = lacks-other o
+handle-free vs seesOther o = lacks-other o
+
+setting-free : (tests : ℕ → ℕ → List Bool) (place : ℕ → ℕ → ℕ) (v : ℕ) (x : Newest) → Free (setting tests place v x .nodes)
+unfolding setting lacking
+setting-free tests place v (aList j least most n f us ns) o = refl
+setting-free tests place v (aMatrix i t us ns) o = refl
+setting-free tests place v other o = refl
+
+-- what the newest node is after a record of an older table, it lacks nothing
+step-free : (k : Kind) (vs : List ℕ) (ns : List Node) → (kindHome k ≡ cedt → ⊥) → Free (added k vs ns)
+unfolding step lacking
+step-free Processor vs ns w o = needless Resource 58 0 (processor 1) vs ns o
+step-free Resource vs ns w o = resource-free vs (view ns) o
+step-free Cache vs ns w o = refl
+step-free Memory vs ns w o = refl
+step-free Acpi vs ns w o = refl
+step-free Pci vs ns w o = refl
+step-free Rintc vs ns w o = refl
+step-free Domain vs ns w o = refl
+step-free Matrix vs ns w o = refl
+step-free Initiator vs ns w o = setting-free _ _ _ (newest ns) o
+step-free Target vs ns w o = setting-free _ _ _ (newest ns) o
+step-free Cell vs ns w o = setting-free _ _ _ (newest ns) o
+step-free Side vs ns w o = needless Handle 65535 0 (side 1) vs ns o
+step-free Handle vs ns w o = handle-free vs (view ns) o
+step-free Bridge vs ns w o = absurd (w refl)
+step-free Window vs ns w o = absurd (w refl)
+step-free WindowTarget vs ns w o = absurd (w refl)
+step-free Xor vs ns w o = absurd (w refl)
+step-free Map vs ns w o = absurd (w refl)
+
+-- ---- records of one table
+
+-- every kind is the table's
+abbrev Own : Table → Calls → Type 0
+Own t done = Unit
+Own t (badKind p) = Unit
+Own t (cutOff p k) = Unit
+Own t (called p k vs rest) = (kindHome k ≡ t) × Own t rest
+
+own-as : (t : Table) (o : Option Kind) (bs : List ℕ) (p : ℕ) (rest : Calls) → ((k : Kind) → o ≡ some k → kindHome k ≡ t) → Own t rest → Own t (cutAs o bs p rest)
+unfolding cutAs
+own-as t none bs p rest s w = tt
+own-as t (some k) bs p rest s w = long (ltb (length bs) (width (body k)))
+  where
+    long : (x : Bool) → Own t (pick x (cutOff p k) (called p k (fields (body k) bs) rest))
+    long true = tt
+    long false = (s k refl, w)
+
+cut-own : (t : Table) (n p : ℕ) (bs : List ℕ) → Own t (cut t n p bs)
+unfolding cut
+cut-own t n p [] = tt
+cut-own t (suc n) p (b ∷ bs) = cut-own t n (suc p) bs
+cut-own t zero p (b ∷ bs) = own-as t (kindOf t b) bs p (cut t (skip (kindOf t b)) (suc p) bs) (λ k e. kind-home t b k e) (cut-own t (skip (kindOf t b)) (suc p) bs)
+
+older-table : (c : ℕ) → (c ≡ code cedt → ⊥) → tableOf c ≡ tableBefore c
+older-table c w = rw (ne-eqb c (code cedt) w) refl
+
+-- a table of document 01 is none that came later
+table-older : (c : ℕ) (t : Table) → tableBefore c ≡ some t → t ≡ cedt → ⊥
+table-older c t e = found-in (λ t. t ≡ cedt → ⊥) (λ t. eqb c (code t)) (pptt ∷ srat ∷ hmat ∷ []) t (other-table refl, (other-table refl, (other-table refl, tt))) e
+
+-- ---- the pass
+
+moves-run : (h : Head) (q : ℕ) (ns : List Node) (cs : Calls) → (h .table ≡ cedt → ⊥) → Own (h .table) cs → Free ns → Moves (runBefore h ns cs) (run h q ns cs)
 unfolding runBefore run faultBefore fault faultAt
-moves-run h q ns done = good _
-moves-run h q ns (badKind p) = same 2 p (λ e. omega arith)
-moves-run h q ns (cutOff p k) = same 3 p (λ e. omega arith)
-moves-run h q ns (called p k vs rest) =
+moves-run h q ns done older own free = rw (free none) (good _)
+moves-run h q ns (badKind p) older own free = rw (free none) (same 2 p (λ e. omega arith))
+moves-run h q ns (cutOff p k) older own free = rw (free (some k)) (same 3 p (λ e. omega arith))
+moves-run h q ns (called p k vs rest) older (own, behind) free =
     let s = step k vs ns in
-    moves-record (s .placed) (all (s .ranges)) (refsGood (isOrdinal (length (s .earlier))) (body k) vs) (refsGood (atOrdinal (starts (h .table) (s .earlier))) (body k) vs)
+    rw (free (some k))
+    (moves-record (s .placed) (all (s .ranges)) (refsGood (isOrdinal (length (s .earlier))) (body k) vs) (refsGood (atOrdinal (starts (h .table) (s .earlier))) (body k) vs)
     (s .full) (ltb limit (front (h .table) + sizes (s .nodes))) p (badIn k (s .ranges)) (runBefore h (added k vs ns) rest) (run h (since ns (added k vs ns) p q) (added k vs ns) rest)
-    (refs-backward (h .table) (s .earlier) (body k) vs) (bad-behind k (s .ranges)) (moves-run h (since ns (added k vs ns) p q) (added k vs ns) rest)
+    (refs-backward (h .table) (s .earlier) (body k) vs) (bad-behind k (s .ranges))
+    (moves-run h (since ns (added k vs ns) p q) (added k vs ns) rest older behind (step-free k vs ns (λ e. older (sym own ∙ e)))))
 
 pub stays : (r : List ℕ) → Stays r
 unfolding meaningBefore meaning headedBefore headed
-stays r = by (eqb (at r 0) 1) (ltb (length r) 28) (tableOf (at r 1))
+stays r older = rw (older-table (at r 1) older) (by (eqb (at r 0) 1) (ltb (length r) 28) (tableBefore (at r 1)) refl)
   where
-    by : (x y : Bool) (o : Option Table)
+    by : (x y : Bool) (o : Option Table) → tableBefore (at r 1) ≡ o
         → (let tests : ℕ = firstOf ((not x, 1) ∷ (y, 3) ∷ []) in
         Moves (andThen (unless tests 0 (andThen (orRefused 5 0 o) (λ t. given (headOf t (part r 2 26))))) (λ h. runBefore h [] (cut (h .table) 0 28 (drop 28 r))))
         (andThen (unless tests 0 (andThen (orRefused 5 1 o) (λ t. given (headOf t (part r 2 26))))) (λ h. run h 0 [] (cut (h .table) 0 28 (drop 28 r)))))
-    by false y o = same 1 0 (λ e. omega arith)
-    by true true o = same 3 0 (λ e. omega arith)
-    by true false none = field 0 1 (omega arith)
-    by true false (some t) = moves-run (headOf t (part r 2 26)) 0 [] (cut t 0 28 (drop 28 r))
+    by false y o e = same 1 0 (λ e. omega arith)
+    by true true o e = same 3 0 (λ e. omega arith)
+    by true false none e = field 0 1 (omega arith)
+    by true false (some t) e = moves-run (headOf t (part r 2 26)) 0 [] (cut t 0 28 (drop 28 r)) (table-older (at r 1) t e) (cut-own t 0 28 (drop 28 r)) lacks-other

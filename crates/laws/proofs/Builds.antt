@@ -7,13 +7,13 @@ use mathlib.Core.Option.{Option, none, some}
 use native.Mathlib.Omega.{arith}
 use lib.ListN.{length, drop}
 use lib.Dec.{eqb, ltb}
-use borrow.Author.Tests.{ltb-false}
-use Rattle.format.specs.Bytes.{pick, firstOf, Bytes, at, part, given, andThen, orRefused}
+use borrow.Author.Tests.{eqb-false, ltb-false}
+use Rattle.format.specs.Bytes.{pick, firstOf, Bytes, at, part, refused, given, andThen, orRefused}
 use Rattle.format.specs.Layout.{width, fields, fixedOk}
-use Rattle.format.specs.Table.{Table, pptt, srat, hmat, front, limit, Head, headOf}
+use Rattle.format.specs.Table.{Table, pptt, srat, hmat, cedt, code, front, limit, Head, headOf}
 use Rattle.format.specs.Node.{Node, sizes}
-use Rattle.format.specs.Kind.{Kind, Processor, Resource, Cache, Memory, Acpi, Pci, Rintc, Domain, Matrix, Initiator, Target, Cell, Side, Handle, kindNumber, kinds, kindOf, body}
-use Rattle.format.specs.Recipe.{Calls, done, badKind, cutOff, called, cutAs, skip, cut, step, added, fault, faultAt, Meaning, means, since, run, tableOf, headed, meaning}
+use Rattle.format.specs.Kind.{Kind, Processor, Resource, Cache, Memory, Acpi, Pci, Rintc, Domain, Matrix, Initiator, Target, Cell, Side, Handle, Bridge, Window, WindowTarget, Xor, Map, kindNumber, kinds, kindOf, body}
+use Rattle.format.specs.Recipe.{Calls, done, badKind, cutOff, called, cutAs, skip, cut, newest, step, added, fault, lacking, faultAt, Meaning, means, since, run, tableOf, headed, meaning}
 use Rattle.format.specs.Build.{tableFrom}
 use Rattle.format.specs.Out.{meaningOf}
 use Rattle.laws.proofs.Bytes.{bytes-drop, length-part}
@@ -21,7 +21,8 @@ use Rattle.laws.proofs.Finds.{All, found-in, none-first, then-given, un
 use Rattle.laws.proofs.Lays.{Fit, Sane, fields-fit}
 use Rattle.laws.proofs.Good.{Good}
 use Rattle.laws.proofs.Heads.{read-built}
-use Rattle.laws.proofs.Grows.{passed, kindHome, grows}
+use Rattle.laws.proofs.Grows.{passed, kindHome, Grown, whole-good, grows}
+use mathlib.Core.Logic.{inl}
 
 -- ---- a body holds nothing fixed, and no two fields in one
 
@@ -41,6 +42,11 @@ fixed-body Target bs = refl
 fixed-body Cell bs = refl
 fixed-body Side bs = refl
 fixed-body Handle bs = refl
+fixed-body Bridge bs = refl
+fixed-body Window bs = refl
+fixed-body WindowTarget bs = refl
+fixed-body Xor bs = refl
+fixed-body Map bs = refl
 
 sane-body : (k : Kind) → Sane (body k)
 unfolding body
@@ -58,6 +64,11 @@ sane-body Target = (tt, (tt, tt))
 sane-body Cell = (tt, (tt, (tt, tt)))
 sane-body Side = (tt, (tt, (tt, tt)))
 sane-body Handle = (tt, tt)
+sane-body Bridge = (tt, (tt, (tt, tt)))
+sane-body Window = (tt, (tt, (tt, (tt, (tt, (tt, (tt, tt)))))))
+sane-body WindowTarget = (tt, tt)
+sane-body Xor = (tt, tt)
+sane-body Map = (tt, tt)
 
 pub body-fits : (k : Kind) (bs : List ℕ) → Bytes bs → width (body k) ≤ length bs → Fit (body k) (fields (body k) bs)
 body-fits k bs h l = fields-fit (body k) bs (sane-body k) h l (fixed-body k bs)
@@ -66,10 +77,15 @@ all-home : (t : Table) → All (λ k. kindHome k ≡ t) (kinds t)
 all-home pptt = (refl, (refl, (refl, tt)))
 all-home srat = (refl, (refl, (refl, (refl, tt))))
 all-home hmat = (refl, (refl, (refl, (refl, (refl, (refl, (refl, tt)))))))
+all-home cedt = (refl, (refl, (refl, (refl, (refl, tt)))))
 
 pub kind-home : (t : Table) (b : ℕ) (k : Kind) → kindOf t b ≡ some k → kindHome k ≡ t
 unfolding kindOf
 kind-home t b k e = found-in (λ k. kindHome k ≡ t) (λ k. eqb b (kindNumber k)) (kinds t) k (all-home t) e
+
+-- two tables whose codes differ
+pub other-table : {t u : Table} → eqb (code t) (code u) ≡ false → t ≡ u → ⊥
+other-table {t} {u} e f = eqb-false (code t) (code u) e (ap code f)
 
 -- ---- what is cut fits
 
@@ -98,26 +114,29 @@ cut-whole t zero p (b ∷ bs) h =
 -- ---- the pass
 
 run-good : (h : Head) (q : ℕ) (ns : List Node) (cs : Calls) (m : Meaning)
-    → Whole (h .table) cs → Good (h .table) ns → front (h .table) + sizes ns ≤ limit → run h q ns cs ≡ given m
+    → Whole (h .table) cs → Grown (h .table) ns → front (h .table) + sizes ns ≤ limit → run h q ns cs ≡ given m
     → (h ≡ m .head) × Good (h .table) (m .nodes) × (front (h .table) + sizes (m .nodes) ≤ limit)
 unfolding run
 run-good h q ns done m w g l e =
-    let z : means h ns ≡ m = cc in
-    rw (← z) (refl, g, l)
-run-good h q ns (badKind p) m w g l e = absurd (let z : _≡_ {A = ℕ} 0 1 = cc in omega arith)
-run-good h q ns (cutOff p k) m w g l e = absurd (let z : _≡_ {A = ℕ} 0 1 = cc in omega arith)
+    let (z, r) = unless-given (lacking (newest ns) none) q (given (means h ns)) e in
+    let i : means h ns ≡ m = cc in
+    rw (← i) (refl, whole-good (h .table) ns none refl z g, l)
+run-good h q ns (badKind p) m w g l e = absurd (let (z, r) = unless-given (lacking (newest ns) none) q (refused 2 p) e in let z : _≡_ {A = ℕ} 0 1 = cc in omega arith)
+run-good h q ns (cutOff p k) m w g l e = absurd (let (z, r) = unless-given (lacking (newest ns) (some k)) q (refused 3 p) e in let z : _≡_ {A = ℕ} 0 1 = cc in omega arith)
 run-good h q ns (called p k vs rest) m (own, f, w) g l e =
     let n = fault (h .table) ns k vs in
-    let (z, r) = unless-given n (p + faultAt n k (step k vs ns .ranges)) (run h (since ns (added k vs ns) p q) (added k vs ns) rest) e in
+    let (i, d) = unless-given (lacking (newest ns) (some k)) q _ e in
+    let (z, r) = unless-given n (p + faultAt n k (step k vs ns .ranges)) (run h (since ns (added k vs ns) p q) (added k vs ns) rest) d in
     let s = passed (h .table) ns k vs z in
-    let m′ : Good (kindHome k) (added k vs ns) = grows k vs ns f (rw own s) (rw own g) in
-    run-good h (since ns (added k vs ns) p q) (added k vs ns) rest m w (rw own at m′) (s .short) r
+    let more : Grown (kindHome k) (added k vs ns) = grows k vs ns f (rw own s) i (rw own g) in
+    run-good h (since ns (added k vs ns) p q) (added k vs ns) rest m w (rw own at more) (s .short) r
 
 front-short : (t : Table) → front t + sizes [] ≤ limit
 unfolding sizes
 front-short pptt = omega arith
 front-short srat = omega arith
 front-short hmat = omega arith
+front-short cedt = omega arith
 
 -- what a recipe means: a head of the table's own revision, and good nodes within the limit
 pub record Means (m : Meaning) : Type 0 where
@@ -142,7 +161,7 @@ unfolding meaning
 meaning-good r m b e =
     let (h, d, f) = then-given (headed r) (λ h. run h 0 [] (cut (h .table) 0 28 (drop 28 r))) e in
     let t = h .table in
-    let (same, g, l) = run-good h 0 [] (cut t 0 28 (drop 28 r)) m (cut-whole t 0 28 (drop 28 r) (bytes-drop 28 r b)) tt (front-short t) f in
+    let (same, g, l) = run-good h 0 [] (cut t 0 28 (drop 28 r)) m (cut-whole t 0 28 (drop 28 r) (bytes-drop 28 r b)) (inl tt) (front-short t) f in
     let (own, n) = headed-given r h d in
     let i : h .identity ≡ part r 2 26 = ap (λ (h : Head). h .identity) own in
     let whole : h ≡ headOf t (h .identity) = rw i own in

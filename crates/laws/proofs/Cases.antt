@@ -1,21 +1,21 @@
--- C1 to C12 and the cases of order 1 hold by computation.
+-- C1 to C12 and the cases of orders 1 and 2 hold by computation.
 use mathlib.Core.Path.{refl}
 use Rattle.format.specs.Bytes.{le, value, part, over, sum, same}
 use Rattle.format.specs.Layout.{width, layWith, fieldsWith, fixedOk, refsGood}
-use Rattle.format.specs.Form.{layout, cacheAttributes, matrixFlags, sideAttributes, ranges}
+use Rattle.format.specs.Form.{layout, registers, ways, cacheAttributes, matrixFlags, sideAttributes, ranges}
 use Rattle.format.specs.Row.{column, matches, rowOf, formIn}
 use Rattle.format.specs.Kind.{kindOf, body}
 use Rattle.format.specs.Node.{bytes, nodeAt, sizes, starts, atPlace, isOrdinal, atOrdinal, placeOf, ordinalOf}
 use Rattle.format.specs.Field.{firstBad}
-use Rattle.format.specs.Recipe.{cutAs, cut, resource, handle, setting, unset, step, fault, faultAt, run, headed, meaning}
+use Rattle.format.specs.Recipe.{cutAs, cut, joined, setting, unset, step, fault, lacking, faultAt, run, headed, meaning}
 use Rattle.format.specs.Build.{records, header, summed, tableFrom, build, table, written, built}
 use Rattle.format.specs.Normal.{each, eachSet, settings, calls, callsOf, recipeOf, normal}
 use Rattle.format.specs.Read.{headFault, judgeHead, framed, frames, sound, recordFault, walk, walked, accept, shown, listIn, fieldsOf, partOf, read, readPart}
 use Rattle.format.specs.Out.{nodesFrom, outOf, meaningOf, readOut, recipe, outWritten}
-use Rattle.laws.specs.Cases.{CheckedByHand, ToldByHand}
+use Rattle.laws.specs.Cases.{CheckedByHand, ToldByHand, CedtByHand}
 
 pub checked : CheckedByHand
-unfolding le value part over sum same width layWith fieldsWith fixedOk refsGood layout cacheAttributes matrixFlags sideAttributes ranges column matches rowOf formIn kindOf body bytes nodeAt sizes starts atPlace isOrdinal atOrdinal placeOf ordinalOf cutAs cut resource handle setting unset step fault firstBad faultAt run headed meaning records header summed tableFrom build table written built each eachSet settings calls callsOf recipeOf normal headFault judgeHead framed frames sound recordFault walk walked accept shown listIn fieldsOf partOf read readPart nodesFrom outOf meaningOf readOut recipe outWritten
+unfolding le value part over sum same width layWith fieldsWith fixedOk refsGood layout cacheAttributes matrixFlags sideAttributes ranges column matches rowOf formIn kindOf body bytes nodeAt sizes starts atPlace isOrdinal atOrdinal placeOf ordinalOf cutAs cut joined setting unset step fault firstBad faultAt lacking run headed meaning records header summed tableFrom build table written built each eachSet settings calls callsOf recipeOf normal headFault judgeHead framed frames sound recordFault walk walked accept shown listIn fieldsOf partOf read readPart nodesFrom outOf meaningOf readOut recipe outWritten
 checked =
     record {
       c1 = (refl, refl, refl);
@@ -36,7 +36,7 @@ checked =
     }
 
 pub told : ToldByHand
-unfolding le value part width layWith fieldsWith refsGood cacheAttributes matrixFlags sideAttributes ranges kindOf body sizes starts isOrdinal atOrdinal cutAs cut resource setting unset step fault firstBad faultAt run headed meaning build
+unfolding le value part width layWith fieldsWith refsGood cacheAttributes matrixFlags sideAttributes ranges kindOf body sizes starts isOrdinal atOrdinal cutAs cut joined setting unset step fault firstBad faultAt lacking run headed meaning build
 told =
     record {
       table = λ room. refl;
@@ -53,4 +53,38 @@ told =
       parent = λ room. refl;
       level = λ room. refl;
       resource = λ room. refl;
+    }
+
+pub cedt-checked : CedtByHand
+unfolding le value part over sum same width layWith fieldsWith fixedOk refsGood layout registers ways ranges column matches rowOf formIn kindOf body bytes nodeAt sizes starts isOrdinal atOrdinal placeOf cutAs cut joined step fault firstBad faultAt lacking run headed meaning records header summed tableFrom build table each headFault judgeHead framed frames sound recordFault walk walked accept shown fieldsOf read
+cedt-checked =
+    record {
+      empty = (refl, refl, refl);
+      bridge = (refl, refl, refl);
+      registers = refl;
+      second = (refl, refl, refl);
+      more = refl;
+      window = (refl, refl, refl);
+      frame = refl;
+      target = refl;
+      maths = (refl, refl, refl);
+      count = refl;
+      most = refl;
+      map = λ room. refl;
+      ended = λ room. refl;
+      fewer = λ room. refl;
+      unknown = λ room. refl;
+      head = λ room. refl;
+      cut = λ room. refl;
+      its = λ room. refl;
+      many = λ room. refl;
+      stray = λ room. refl;
+      apart = λ room. refl;
+      version = λ room. refl;
+      ways = λ room. refl;
+      short = refl;
+      coded = refl;
+      settled = refl;
+      reserved = refl;
+      free = refl;
     }

@@ -1,56 +1,37 @@
 -- The faults of a whole record of a recipe are those that the conditions say, kind by kind: its kind, where it stands, its ranges, its references, and its node's list.
 use mathlib.Core.Path.{_≡_, refl, sym, ap, _∙_}
-use mathlib.Core.Logic.{_↔_, inl, inr, ⊎-elim}
-use Prim.Native.Nat.{ℕ, suc, _+_, _≤_, _<_}
-use mathlib.Core.List.{List, [], _∷_}
+use mathlib.Core.Logic.{_↔_, _⊎_, inl, inr, ⊎-elim}
+use Prim.Native.Nat.{ℕ, suc, _+_, _-_, _≤_, _<_}
+use mathlib.Core.List.{List, [], _∷_, _++_}
 use mathlib.Core.Bool.{Bool, true, false, not}
 use mathlib.Core.Option.{Option, none, some}
 use native.Mathlib.Nat.{add-zero}
 use native.Mathlib.Omega.{arith}
 use lib.ListN.{length, drop, length-append}
 use lib.Dec.{eqb, leb, ltb}
-use borrow.Author.Tests.{eqb-true, eqb-false, not-false}
-use Rattle.format.specs.Bytes.{pick, both, all, find, at}
+use borrow.Author.Tests.{eqb-true, eqb-false, eq-eqb, ne-eqb, ltb-true, ltb-false, not-false}
+use Rattle.format.specs.Bytes.{pick, both, all, at}
 use Rattle.format.specs.Layout.{refsGood}
-use Rattle.format.specs.Table.{Table, pptt, srat, hmat, front, limit}
-use Rattle.format.specs.Form.{Form, processor, cache, memory, acpi, pci, rintc, domain, matrix, side, typeOf}
-use Rattle.format.specs.Node.{Node, sizes, starts, isOrdinal, atOrdinal}
-use Rattle.format.specs.Kind.{Kind, Processor, Resource, Cache, Memory, Acpi, Pci, Rintc, Domain, Matrix, Initiator, Target, Cell, Side, Handle, kindNumber, kinds, kindOf, body}
+use Rattle.format.specs.Table.{Table, pptt, srat, hmat, cedt, front, limit}
+use Rattle.format.specs.Form.{Form, processor, cache, memory, acpi, pci, rintc, matrix, side, bridge, window, xor, registers, ways, typeOf}
+use Rattle.format.specs.Node.{Node, node, sizes, starts, isOrdinal, atOrdinal}
+use Rattle.format.specs.Kind.{Kind, Processor, Resource, Cache, Memory, Acpi, Pci, Rintc, Domain, Matrix, Initiator, Target, Cell, Side, Handle, Bridge, Window, WindowTarget, Xor, Map, kindNumber, kinds, kindOf, isKind, body}
 use Rattle.format.specs.Field.{badIn}
-use Rattle.format.specs.Recipe.{Newest, aProcessor, aMatrix, aSide, other, newestAs, newest, resource, handle, setting, step, added, fault, faultAt}
+use Rattle.format.specs.Recipe.{Newest, aList, aMatrix, other, newestAs, newest, joined, setting, changes, stray, step, added, fault, lacking, since, faultAt}
 use Rattle.laws.specs.Words.{FirstOf, NoneOf, FirstNot, References}
-use Rattle.laws.specs.Demand1.{Belongs, joins, After, earlier, counts, Ranged, places, Full, Backward, Names, recordFaults, Where, OfKind}
+use Rattle.laws.specs.Demand1.{Belongs, joins, After, earlier, maker, counts, Ranged, places, Full, Lacks, Backward, Names, recordFaults, Where, OfKind}
 use Rattle.laws.proofs.Finds.{never, All, found-test, found-in}
 use Rattle.laws.proofs.Words.{Tests, TestsAll, tests-every, found-none, among-none, among-cases, among-more, tests-leb, tests-ltb, tests-true, tests-not, tests-both, tests-as, tests-rules, tests-references, Mirrors, none-of, first-of, first-not, offsets, first-bad}
 use Rattle.laws.proofs.Links.{length-starts}
+use Rattle.laws.proofs.Grows.{View, seesProcessor, seesMatrix, seesSide, seesWindow, seesXor, seesOther, view, needless, kind-number}
 
 -- ---- the kind of a byte
-
--- the kind of a number, whatever its table
-numbered : ℕ → Option Kind
-numbered b = find (λ k. eqb b (kindNumber k)) (Processor ∷ Resource ∷ Cache ∷ Memory ∷ Acpi ∷ Pci ∷ Rintc ∷ Domain ∷ Matrix ∷ Initiator ∷ Target ∷ Cell ∷ Side ∷ Handle ∷ [])
-
-number-back : (k : Kind) → numbered (kindNumber k) ≡ some k
-unfolding numbered
-number-back Processor = refl
-number-back Resource = refl
-number-back Cache = refl
-number-back Memory = refl
-number-back Acpi = refl
-number-back Pci = refl
-number-back Rintc = refl
-number-back Domain = refl
-number-back Matrix = refl
-number-back Initiator = refl
-number-back Target = refl
-number-back Cell = refl
-number-back Side = refl
-number-back Handle = refl
 
 all-belong : (t : Table) → All (λ k. Belongs t (kindNumber k)) (kinds t)
 all-belong pptt = omega arith
 all-belong srat = omega arith
 all-belong hmat = omega arith
+all-belong cedt = omega arith
 
 pub kind-then : (t : Table) (b : ℕ) (k : Kind) → kindOf t b ≡ some k → OfKind t b k
 unfolding kindOf
@@ -77,49 +58,80 @@ kind-none t b e h = by t (found-none (λ k. eqb b (kindNumber k)) (kinds t) e) h
     by hmat m h =
         outside 54 b
         (past 54 (past 53 (past 52 (past 51 (past 50 (past 49 (past 48 (h .0) (m .0)) (m .1 .0)) (m .1 .1 .0)) (m .1 .1 .1 .0)) (m .1 .1 .1 .1 .0)) (m .1 .1 .1 .1 .1 .0)) (m .1 .1 .1 .1 .1 .1 .0)) (h .1)
+    by cedt m h = outside 68 b (past 68 (past 67 (past 66 (past 65 (past 64 (h .0) (m .0)) (m .1 .0)) (m .1 .1 .0)) (m .1 .1 .1 .0)) (m .1 .1 .1 .1 .0)) (h .1)
 
 pub kind-is : (t : Table) (b : ℕ) (k : Kind) → OfKind t b k → kindOf t b ≡ some k
 kind-is t b k (h, q) = by (kindOf t b) refl
   where
     by : (o : Option Kind) → kindOf t b ≡ o → o ≡ some k
     by none e = absurd (kind-none t b e h)
-    by (some j) e = sym (number-back j) ∙ (ap numbered (sym (kind-then t b j e .1) ∙ q) ∙ number-back k)
+    by (some j) e = ap some (kind-number j k (sym (kind-then t b j e .1) ∙ q))
 
 -- ---- the newest node, and the kind byte of the record directly before
 
 -- b is a kind byte of records that the newest node is made of, or no node that is joined
 abbrev pub Follows : Newest → ℕ → Type 0
-Follows (aProcessor n us ns) b = (16 ≤ b) × (b ≤ 17)
+Follows (aList k least most n f us ns) b = After (joins k) b
 Follows (aMatrix i t us ns) b = (49 ≤ b) × (b ≤ 52)
-Follows (aSide n us ns) b = (53 ≤ b) × (b ≤ 54)
-Follows other b = ((16 ≤ b) × (b ≤ 17) → ⊥) × ((49 ≤ b) × (b ≤ 54) → ⊥)
+Follows other b = ((16 ≤ b) × (b ≤ 17) → ⊥) × ((49 ≤ b) × (b ≤ 54) → ⊥) × ((65 ≤ b) × (b ≤ 68) → ⊥)
+
+tests-no : {P : Type 0} → (P → ⊥) → Tests false P
+tests-no h = record { right = never; wrong = λ e. h }
+
+tests-so : {P : Type 0} → P → Tests true P
+tests-so h = record { right = λ e. h; wrong = λ e. never (sym e) }
+
+module _ (b : ℕ) (vs : List ℕ) where
+  resource-placed : {ns : List Node} {x : Newest} → View ns x → Follows x b → Tests (joined Resource vs x .placed) (After (joins Resource) b)
+  unfolding joined
+  resource-placed seesProcessor f = tests-so f
+  resource-placed seesMatrix f = tests-no λ h. omega arith
+  resource-placed seesSide f = tests-no λ h. omega arith
+  resource-placed seesWindow f = tests-no λ h. omega arith
+  resource-placed seesXor f = tests-no λ h. omega arith
+  resource-placed seesOther f = tests-no λ h. f .0 h
+
+  handle-placed : {ns : List Node} {x : Newest} → View ns x → Follows x b → Tests (joined Handle vs x .placed) (After (joins Handle) b)
+  unfolding joined
+  handle-placed seesProcessor f = tests-no λ h. omega arith
+  handle-placed seesMatrix f = tests-no λ h. omega arith
+  handle-placed seesSide f = tests-so f
+  handle-placed seesWindow f = tests-no λ h. omega arith
+  handle-placed seesXor f = tests-no λ h. omega arith
+  handle-placed seesOther f = tests-no λ h. f .1 (omega arith)
+
+  target-placed : {ns : List Node} {x : Newest} → View ns x → Follows x b → Tests (joined WindowTarget vs x .placed) (After (joins WindowTarget) b)
+  unfolding joined
+  target-placed seesProcessor f = tests-no λ h. omega arith
+  target-placed seesMatrix f = tests-no λ h. omega arith
+  target-placed seesSide f = tests-no λ h. omega arith
+  target-placed seesWindow f = tests-so f
+  target-placed seesXor f = tests-no λ h. omega arith
+  target-placed seesOther f = tests-no λ h. f .2 (omega arith)
+
+  map-placed : {ns : List Node} {x : Newest} → View ns x → Follows x b → Tests (joined Map vs x .placed) (After (joins Map) b)
+  unfolding joined
+  map-placed seesProcessor f = tests-no λ h. omega arith
+  map-placed seesMatrix f = tests-no λ h. omega arith
+  map-placed seesSide f = tests-no λ h. omega arith
+  map-placed seesWindow f = tests-no λ h. omega arith
+  map-placed seesXor f = tests-so f
+  map-placed seesOther f = tests-no λ h. f .2 (omega arith)
+
+  setting-placed : (tests : ℕ → ℕ → List Bool) (field : ℕ → ℕ → ℕ) (v : ℕ) {ns : List Node} {x : Newest} → View ns x → Follows x b → Tests (setting tests field v x .placed) ((49 ≤ b) × (b ≤ 52))
+  unfolding setting
+  setting-placed tests field v seesProcessor f = tests-no λ h. omega arith
+  setting-placed tests field v seesMatrix f = tests-so f
+  setting-placed tests field v seesSide f = tests-no λ h. omega arith
+  setting-placed tests field v seesWindow f = tests-no λ h. omega arith
+  setting-placed tests field v seesXor f = tests-no λ h. omega arith
+  setting-placed tests field v seesOther f = tests-no λ h. f .1 (omega arith)
 
 module _ (b : ℕ) where
-  resource-placed : (vs : List ℕ) (x : Newest) → Follows x b → Tests (resource vs x .placed) ((16 ≤ b) × (b ≤ 17))
-  unfolding resource
-  resource-placed vs (aProcessor n us ns) f = record { right = λ e. f; wrong = λ e. never (sym e) }
-  resource-placed vs (aMatrix i t us ns) f = record { right = never; wrong = λ e h. omega arith }
-  resource-placed vs (aSide n us ns) f = record { right = never; wrong = λ e h. omega arith }
-  resource-placed vs other f = record { right = never; wrong = λ e h. f .0 h }
-
-  handle-placed : (vs : List ℕ) (x : Newest) → Follows x b → Tests (handle vs x .placed) ((53 ≤ b) × (b ≤ 54))
-  unfolding handle
-  handle-placed vs (aProcessor n us ns) f = record { right = never; wrong = λ e h. omega arith }
-  handle-placed vs (aMatrix i t us ns) f = record { right = never; wrong = λ e h. omega arith }
-  handle-placed vs (aSide n us ns) f = record { right = λ e. f; wrong = λ e. never (sym e) }
-  handle-placed vs other f = record { right = never; wrong = λ e h. f .1 (omega arith) }
-
-  setting-placed : (tests : ℕ → ℕ → List Bool) (field : ℕ → ℕ → ℕ) (v : ℕ) (x : Newest) → Follows x b → Tests (setting tests field v x .placed) ((49 ≤ b) × (b ≤ 52))
-  unfolding setting
-  setting-placed tests field v (aProcessor n us ns) f = record { right = never; wrong = λ e h. omega arith }
-  setting-placed tests field v (aMatrix i t us ns) f = record { right = λ e. f; wrong = λ e. never (sym e) }
-  setting-placed tests field v (aSide n us ns) f = record { right = never; wrong = λ e h. omega arith }
-  setting-placed tests field v other f = record { right = never; wrong = λ e h. f .1 (omega arith) }
-
   tests-placed : (k : Kind) (vs : List ℕ) (ns : List Node) → Follows (newest ns) b → Tests (step k vs ns .placed) (After (joins k) b)
   unfolding step
   tests-placed Processor vs ns f = tests-true
-  tests-placed Resource vs ns f = resource-placed vs (newest ns) f
+  tests-placed Resource vs ns f = resource-placed b vs (view ns) f
   tests-placed Cache vs ns f = tests-true
   tests-placed Memory vs ns f = tests-true
   tests-placed Acpi vs ns f = tests-true
@@ -127,39 +139,48 @@ module _ (b : ℕ) where
   tests-placed Rintc vs ns f = tests-true
   tests-placed Domain vs ns f = tests-true
   tests-placed Matrix vs ns f = tests-true
-  tests-placed Initiator vs ns f = setting-placed _ _ _ (newest ns) f
-  tests-placed Target vs ns f = setting-placed _ _ _ (newest ns) f
-  tests-placed Cell vs ns f = setting-placed _ _ _ (newest ns) f
+  tests-placed Initiator vs ns f = setting-placed b vs _ _ _ (view ns) f
+  tests-placed Target vs ns f = setting-placed b vs _ _ _ (view ns) f
+  tests-placed Cell vs ns f = setting-placed b vs _ _ _ (view ns) f
   tests-placed Side vs ns f = tests-true
-  tests-placed Handle vs ns f = handle-placed vs (newest ns) f
+  tests-placed Handle vs ns f = handle-placed b vs (view ns) f
+  tests-placed Bridge vs ns f = tests-true
+  tests-placed Window vs ns f = tests-true
+  tests-placed WindowTarget vs ns f = target-placed b vs (view ns) f
+  tests-placed Xor vs ns f = tests-true
+  tests-placed Map vs ns f = map-placed b vs (view ns) f
 
 -- where a record is placed, the newest node with it is of its kind
-resource-next : (vs : List ℕ) (x : Newest) → resource vs x .placed ≡ true → Follows (newest (resource vs x .nodes)) 17
-unfolding resource
-resource-next vs (aProcessor n us ns) e = omega arith
-resource-next vs (aMatrix i t us ns) e = never e
-resource-next vs (aSide n us ns) e = never e
-resource-next vs other e = never e
+list-next : (k j : Kind) (least most n : ℕ) (f : Form) (us vs : List ℕ) (ns : List Node) → Follows (newestAs f (us ++ vs) ns) (kindNumber j)
+    → joined k vs (aList j least most n f us ns) .placed ≡ true → Follows (newest (joined k vs (aList j least most n f us ns) .nodes)) (kindNumber k)
+unfolding joined
+list-next k j least most n f us vs ns h e = by (eqb (kindNumber k) (kindNumber j)) refl e
+  where
+    by : (x : Bool) → eqb (kindNumber k) (kindNumber j) ≡ x → pick x (changes [] (leb most n) (node f (us ++ vs)) ns) stray .placed ≡ true
+        → Follows (newest (pick x (changes [] (leb most n) (node f (us ++ vs)) ns) stray .nodes)) (kindNumber k)
+    by true q e = rw (eqb-true (kindNumber k) (kindNumber j) q) h
+    by false q e = never e
 
-handle-next : (vs : List ℕ) (x : Newest) → handle vs x .placed ≡ true → Follows (newest (handle vs x .nodes)) 54
-unfolding handle
-handle-next vs (aProcessor n us ns) e = never e
-handle-next vs (aMatrix i t us ns) e = never e
-handle-next vs (aSide n us ns) e = omega arith
-handle-next vs other e = never e
+joined-next : (k : Kind) (vs : List ℕ) {ns : List Node} {x : Newest} → View ns x → joined k vs x .placed ≡ true → Follows (newest (joined k vs x .nodes)) (kindNumber k)
+unfolding joined
+joined-next k vs (seesProcessor {n} {us} {ns}) e = list-next k Resource 0 58 n (processor (suc n)) us vs ns (omega arith) e
+joined-next k vs seesMatrix e = never e
+joined-next k vs (seesSide {n} {us} {ns}) e = list-next k Handle 0 65535 n (side (suc n)) us vs ns (omega arith) e
+joined-next k vs (seesWindow {n} {us} {ns}) e = list-next k WindowTarget n n (length us - 7) (window n) us vs ns (omega arith) e
+joined-next k vs (seesXor {n} {us} {ns}) e = list-next k Map 0 255 n (xor (suc n)) us vs ns (omega arith) e
+joined-next k vs seesOther e = never e
 
 setting-next : (tests : ℕ → ℕ → List Bool) (field : ℕ → ℕ → ℕ) (v : ℕ) (x : Newest) (b : ℕ) → (49 ≤ b) × (b ≤ 52) → setting tests field v x .placed ≡ true
     → Follows (newest (setting tests field v x .nodes)) b
 unfolding setting
-setting-next tests field v (aProcessor n us ns) b h e = never e
+setting-next tests field v (aList k least most n f us ns) b h e = never e
 setting-next tests field v (aMatrix i t us ns) b h e = h
-setting-next tests field v (aSide n us ns) b h e = never e
 setting-next tests field v other b h e = never e
 
 pub follows-next : (k : Kind) (vs : List ℕ) (ns : List Node) → step k vs ns .placed ≡ true → Follows (newest (added k vs ns)) (kindNumber k)
 unfolding step
 follows-next Processor vs ns e = omega arith
-follows-next Resource vs ns e = resource-next vs (newest ns) e
+follows-next Resource vs ns e = joined-next Resource vs (view ns) e
 follows-next Cache vs ns e = omega arith
 follows-next Memory vs ns e = omega arith
 follows-next Acpi vs ns e = omega arith
@@ -171,36 +192,91 @@ follows-next Initiator vs ns e = setting-next _ _ _ (newest ns) 50 (omega arith)
 follows-next Target vs ns e = setting-next _ _ _ (newest ns) 51 (omega arith) e
 follows-next Cell vs ns e = setting-next _ _ _ (newest ns) 52 (omega arith) e
 follows-next Side vs ns e = omega arith
-follows-next Handle vs ns e = handle-next vs (newest ns) e
+follows-next Handle vs ns e = joined-next Handle vs (view ns) e
+follows-next Bridge vs ns e = omega arith
+follows-next Window vs ns e = omega arith
+follows-next WindowTarget vs ns e = joined-next WindowTarget vs (view ns) e
+follows-next Xor vs ns e = omega arith
+follows-next Map vs ns e = joined-next Map vs (view ns) e
+
+-- ---- the record that made the newest node
+
+-- one that joins adds no node
+joined-since : (k : Kind) (vs : List ℕ) (p w : ℕ) {ns : List Node} {x : Newest} → View ns x → joined k vs x .placed ≡ true → since ns (joined k vs x .nodes) p w ≡ w
+unfolding joined
+joined-since k vs p w v e = by-view v e
+  where
+    by : (j : Kind) (most n : ℕ) (f : Form) (us : List ℕ) (m : Node) (ns : List Node) (x : Bool) → pick x (changes [] (leb most n) (node f (us ++ vs)) ns) stray .placed ≡ true
+        → since (m ∷ ns) (pick x (changes [] (leb most n) (node f (us ++ vs)) ns) stray .nodes) p w ≡ w
+    by j most n f us m ns true e = rw (eq-eqb (suc (length ns)) (suc (length ns)) refl)
+    by j most n f us m ns false e = never e
+
+    by-view : {ns : List Node} {x : Newest} → View ns x → joined k vs x .placed ≡ true → since ns (joined k vs x .nodes) p w ≡ w
+    by-view (seesProcessor {n} {us} {ns}) e = by Resource 58 n (processor (suc n)) us (node (processor n) us) ns (eqb (kindNumber k) 17) e
+    by-view seesMatrix e = never e
+    by-view (seesSide {n} {us} {ns}) e = by Handle 65535 n (side (suc n)) us (node (side n) us) ns (eqb (kindNumber k) 54) e
+    by-view (seesWindow {n} {us} {ns}) e = by WindowTarget n (length us - 7) (window n) us (node (window n) us) ns (eqb (kindNumber k) 66) e
+    by-view (seesXor {n} {us} {ns}) e = by Map 255 n (xor (suc n)) us (node (xor n) us) ns (eqb (kindNumber k) 68) e
+    by-view seesOther e = never e
+
+setting-since : (tests : ℕ → ℕ → List Bool) (field : ℕ → ℕ → ℕ) (v p w : ℕ) {ns : List Node} {x : Newest} → View ns x → setting tests field v x .placed ≡ true → since ns (setting tests field v x .nodes) p w ≡ w
+unfolding setting
+setting-since tests field v p w seesProcessor e = never e
+setting-since tests field v p w (seesMatrix {i} {t} {us} {ns}) e = rw (eq-eqb (suc (length ns)) (suc (length ns)) refl)
+setting-since tests field v p w seesSide e = never e
+setting-since tests field v p w seesWindow e = never e
+setting-since tests field v p w seesXor e = never e
+setting-since tests field v p w seesOther e = never e
+
+-- one that makes a node adds one
+made-since : (ns : List Node) (p w : ℕ) → pick (eqb (suc (length ns)) (length ns)) w p ≡ p
+made-since ns p w = rw (ne-eqb (suc (length ns)) (length ns) (λ i. omega arith))
+
+pub since-maker : (k : Kind) (vs : List ℕ) (ns : List Node) (p w : ℕ) → step k vs ns .placed ≡ true → since ns (added k vs ns) p w ≡ maker (joins k) p w
+unfolding step
+since-maker Processor vs ns p w e = made-since ns p w
+since-maker Resource vs ns p w e = joined-since Resource vs p w (view ns) e
+since-maker Cache vs ns p w e = made-since ns p w
+since-maker Memory vs ns p w e = made-since ns p w
+since-maker Acpi vs ns p w e = made-since ns p w
+since-maker Pci vs ns p w e = made-since ns p w
+since-maker Rintc vs ns p w e = made-since ns p w
+since-maker Domain vs ns p w e = made-since ns p w
+since-maker Matrix vs ns p w e = made-since ns p w
+since-maker Initiator vs ns p w e = setting-since _ _ _ p w (view ns) e
+since-maker Target vs ns p w e = setting-since _ _ _ p w (view ns) e
+since-maker Cell vs ns p w e = setting-since _ _ _ p w (view ns) e
+since-maker Side vs ns p w e = made-since ns p w
+since-maker Handle vs ns p w e = joined-since Handle vs p w (view ns) e
+since-maker Bridge vs ns p w e = made-since ns p w
+since-maker Window vs ns p w e = made-since ns p w
+since-maker WindowTarget vs ns p w e = joined-since WindowTarget vs p w (view ns) e
+since-maker Xor vs ns p w e = made-since ns p w
+since-maker Map vs ns p w e = joined-since Map vs p w (view ns) e
 
 -- ---- ranges
 
-resource-ranged : (vs : List ℕ) (x : Newest) → resource vs x .ranges ≡ []
-unfolding resource
-resource-ranged vs (aProcessor n us ns) = refl
-resource-ranged vs (aMatrix i t us ns) = refl
-resource-ranged vs (aSide n us ns) = refl
-resource-ranged vs other = refl
-
-handle-ranged : (vs : List ℕ) (x : Newest) → handle vs x .ranges ≡ []
-unfolding handle
-handle-ranged vs (aProcessor n us ns) = refl
-handle-ranged vs (aMatrix i t us ns) = refl
-handle-ranged vs (aSide n us ns) = refl
-handle-ranged vs other = refl
+joined-ranged : (k : Kind) (vs : List ℕ) (x : Newest) → joined k vs x .ranges ≡ []
+unfolding joined
+joined-ranged k vs (aList j least most n f us ns) = by (eqb (kindNumber k) (kindNumber j))
+  where
+    by : (x : Bool) → pick x (changes [] (leb most n) (node f (us ++ vs)) ns) stray .ranges ≡ []
+    by true = refl
+    by false = refl
+joined-ranged k vs (aMatrix i t us ns) = refl
+joined-ranged k vs other = refl
 
 setting-ranged : (tests : ℕ → ℕ → List Bool) (field : ℕ → ℕ → ℕ) (v : ℕ) (P : ℕ → ℕ → List (Type 0)) → ((i t : ℕ) → TestsAll (tests i t) (P i t))
     → (x : Newest) → setting tests field v x .placed ≡ true → TestsAll (setting tests field v x .ranges) (P (counts x .0) (counts x .1))
 unfolding setting
-setting-ranged tests field v P h (aProcessor n us ns) e = never e
+setting-ranged tests field v P h (aList k least most n f us ns) e = never e
 setting-ranged tests field v P h (aMatrix i t us ns) e = h i t
-setting-ranged tests field v P h (aSide n us ns) e = never e
 setting-ranged tests field v P h other e = never e
 
 tests-ranged : (k : Kind) (vs : List ℕ) (ns : List Node) → step k vs ns .placed ≡ true → TestsAll (step k vs ns .ranges) (Ranged k vs (newest ns))
 unfolding step
 tests-ranged Processor vs ns e = tt
-tests-ranged Resource vs ns e = rw (resource-ranged vs (newest ns)) tt
+tests-ranged Resource vs ns e = rw (joined-ranged Resource vs (newest ns)) tt
 tests-ranged Cache vs ns e = tests-rules cache vs
 tests-ranged Memory vs ns e = tests-rules memory vs
 tests-ranged Acpi vs ns e = tests-rules acpi vs
@@ -213,7 +289,12 @@ tests-ranged Target vs ns e = setting-ranged _ _ _ (λ i t. (at vs 0 < t) ∷ []
 tests-ranged Cell vs ns e =
     setting-ranged _ _ _ (λ i t. (at vs 0 < i) ∷ (at vs 1 < t) ∷ []) (λ i t. (tests-ltb (at vs 0) i, (tests-ltb (at vs 1) t, tt))) (newest ns) e
 tests-ranged Side vs ns e = tests-rules (side 0) vs
-tests-ranged Handle vs ns e = rw (handle-ranged vs (newest ns)) tt
+tests-ranged Handle vs ns e = rw (joined-ranged Handle vs (newest ns)) tt
+tests-ranged Bridge vs ns e = tests-rules (bridge (registers (at vs 1))) vs
+tests-ranged Window vs ns e = tests-rules (window (ways (at vs 2))) vs
+tests-ranged WindowTarget vs ns e = rw (joined-ranged WindowTarget vs (newest ns)) tt
+tests-ranged Xor vs ns e = tests-rules (xor 0) vs
+tests-ranged Map vs ns e = rw (joined-ranged Map vs (newest ns)) tt
 
 -- a condition for each field at most
 few-ranged : (k : Kind) (vs : List ℕ) (n : Newest) → length (Ranged k vs n) ≤ length (body k)
@@ -232,6 +313,11 @@ few-ranged Target vs n = omega arith
 few-ranged Cell vs n = omega arith
 few-ranged Side vs n = omega arith
 few-ranged Handle vs n = omega arith
+few-ranged Bridge vs n = omega arith
+few-ranged Window vs n = omega arith
+few-ranged WindowTarget vs n = omega arith
+few-ranged Xor vs n = omega arith
+few-ranged Map vs n = omega arith
 
 -- where the fields are said to begin, the items of the body do
 places-body : (k : Kind) → offsets 1 (body k) ≡ places k
@@ -250,52 +336,78 @@ places-body Target = refl
 places-body Cell = refl
 places-body Side = refl
 places-body Handle = refl
+places-body Bridge = refl
+places-body Window = refl
+places-body WindowTarget = refl
+places-body Xor = refl
+places-body Map = refl
 
 -- ---- a full list
 
-not-full : (k : Kind) (n : Newest) → eqb (kindNumber k) 17 ≡ false → eqb (kindNumber k) 54 ≡ false → Tests false (Full k n)
-not-full k n a b =
-    record { right = never; wrong = λ e. elim [ inl h ↦ eqb-false (kindNumber k) 17 a (ap kindNumber (h .0)) | inr h ↦ eqb-false (kindNumber k) 54 b (ap kindNumber (h .0)) ] }
+module _ (vs : List ℕ) where
+  resource-full : {ns : List Node} {x : Newest} → View ns x → joined Resource vs x .placed ≡ true → Tests (joined Resource vs x .full) (Full Resource x)
+  unfolding joined
+  resource-full (seesProcessor {n} {us}) e = tests-leb 58 n
+  resource-full seesMatrix e = never e
+  resource-full seesSide e = never e
+  resource-full seesWindow e = never e
+  resource-full seesXor e = never e
+  resource-full seesOther e = never e
 
-resource-full : (vs : List ℕ) (x : Newest) → resource vs x .placed ≡ true → Tests (resource vs x .full) (Full Resource x)
-unfolding resource
-resource-full vs (aProcessor n us ns) e =
-    record { right = λ q. inl (refl, tests-leb 58 n .right q); wrong = λ q. elim [ inl h ↦ tests-leb 58 n .wrong q (h .1) | inr h ↦ absurd (let z = ap kindNumber (h .0) in omega arith) ] }
-resource-full vs (aMatrix i t us ns) e = never e
-resource-full vs (aSide n us ns) e = never e
-resource-full vs other e = never e
+  handle-full : {ns : List Node} {x : Newest} → View ns x → joined Handle vs x .placed ≡ true → Tests (joined Handle vs x .full) (Full Handle x)
+  unfolding joined
+  handle-full seesProcessor e = never e
+  handle-full seesMatrix e = never e
+  handle-full (seesSide {n} {us}) e = tests-leb 65535 n
+  handle-full seesWindow e = never e
+  handle-full seesXor e = never e
+  handle-full seesOther e = never e
 
-handle-full : (vs : List ℕ) (x : Newest) → handle vs x .placed ≡ true → Tests (handle vs x .full) (Full Handle x)
-unfolding handle
-handle-full vs (aProcessor n us ns) e = never e
-handle-full vs (aMatrix i t us ns) e = never e
-handle-full vs (aSide n us ns) e =
-    record { right = λ q. inr (refl, tests-leb 65535 n .right q); wrong = λ q. elim [ inl h ↦ absurd (let z = ap kindNumber (h .0) in omega arith) | inr h ↦ tests-leb 65535 n .wrong q (h .1) ] }
-handle-full vs other e = never e
+  target-full : {ns : List Node} {x : Newest} → View ns x → joined WindowTarget vs x .placed ≡ true → Tests (joined WindowTarget vs x .full) (Full WindowTarget x)
+  unfolding joined
+  target-full seesProcessor e = never e
+  target-full seesMatrix e = never e
+  target-full seesSide e = never e
+  target-full (seesWindow {n} {us}) e = tests-leb n (length us - 7)
+  target-full seesXor e = never e
+  target-full seesOther e = never e
+
+  map-full : {ns : List Node} {x : Newest} → View ns x → joined Map vs x .placed ≡ true → Tests (joined Map vs x .full) (Full Map x)
+  unfolding joined
+  map-full seesProcessor e = never e
+  map-full seesMatrix e = never e
+  map-full seesSide e = never e
+  map-full seesWindow e = never e
+  map-full (seesXor {n} {us}) e = tests-leb 255 n
+  map-full seesOther e = never e
 
 setting-full : (tests : ℕ → ℕ → List Bool) (field : ℕ → ℕ → ℕ) (v : ℕ) (x : Newest) → setting tests field v x .full ≡ false
 unfolding setting
-setting-full tests field v (aProcessor n us ns) = refl
+setting-full tests field v (aList k least most n f us ns) = refl
 setting-full tests field v (aMatrix i t us ns) = refl
-setting-full tests field v (aSide n us ns) = refl
 setting-full tests field v other = refl
 
 tests-full : (k : Kind) (vs : List ℕ) (ns : List Node) → step k vs ns .placed ≡ true → Tests (step k vs ns .full) (Full k (newest ns))
 unfolding step
-tests-full Processor vs ns e = not-full Processor (newest ns) refl refl
-tests-full Resource vs ns e = resource-full vs (newest ns) e
-tests-full Cache vs ns e = not-full Cache (newest ns) refl refl
-tests-full Memory vs ns e = not-full Memory (newest ns) refl refl
-tests-full Acpi vs ns e = not-full Acpi (newest ns) refl refl
-tests-full Pci vs ns e = not-full Pci (newest ns) refl refl
-tests-full Rintc vs ns e = not-full Rintc (newest ns) refl refl
-tests-full Domain vs ns e = not-full Domain (newest ns) refl refl
-tests-full Matrix vs ns e = not-full Matrix (newest ns) refl refl
-tests-full Initiator vs ns e = rw setting-full (not-full Initiator (newest ns) refl refl)
-tests-full Target vs ns e = rw setting-full (not-full Target (newest ns) refl refl)
-tests-full Cell vs ns e = rw setting-full (not-full Cell (newest ns) refl refl)
-tests-full Side vs ns e = not-full Side (newest ns) refl refl
-tests-full Handle vs ns e = handle-full vs (newest ns) e
+tests-full Processor vs ns e = tests-no λ h. h
+tests-full Resource vs ns e = resource-full vs (view ns) e
+tests-full Cache vs ns e = tests-no λ h. h
+tests-full Memory vs ns e = tests-no λ h. h
+tests-full Acpi vs ns e = tests-no λ h. h
+tests-full Pci vs ns e = tests-no λ h. h
+tests-full Rintc vs ns e = tests-no λ h. h
+tests-full Domain vs ns e = tests-no λ h. h
+tests-full Matrix vs ns e = tests-no λ h. h
+tests-full Initiator vs ns e = rw setting-full (tests-no λ h. h)
+tests-full Target vs ns e = rw setting-full (tests-no λ h. h)
+tests-full Cell vs ns e = rw setting-full (tests-no λ h. h)
+tests-full Side vs ns e = tests-no λ h. h
+tests-full Handle vs ns e = handle-full vs (view ns) e
+tests-full Bridge vs ns e = tests-no λ h. h
+tests-full Window vs ns e = tests-no λ h. h
+tests-full WindowTarget vs ns e = target-full vs (view ns) e
+tests-full Xor vs ns e = tests-no λ h. h
+tests-full Map vs ns e = map-full vs (view ns) e
 
 -- ---- references
 
@@ -333,21 +445,14 @@ tests-backward ns v ty =
     tests-as (both (leb 1 v) (leb v (length ns))) (tests-both (leb 1 v) (leb v (length ns)) (tests-leb 1 v) (tests-leb v (length ns))) (λ h. omega (arith, h)) (λ h. omega (arith, h))
 
 -- a resource's own node is the newest
-resource-earlier : (vs : List ℕ) (ns : List Node) → resource vs (newest ns) .placed ≡ true → resource vs (newest ns) .earlier ≡ drop 1 ns
-unfolding resource
-resource-earlier vs [] e = never e
-resource-earlier vs (n ∷ ns) e = by (n .form) e
-  where
-    by : (f : Form) → resource vs (newestAs f (n .values) ns) .placed ≡ true → resource vs (newestAs f (n .values) ns) .earlier ≡ ns
-    by (processor i) e = refl
-    by cache e = never e
-    by memory e = never e
-    by acpi e = never e
-    by pci e = never e
-    by rintc e = never e
-    by domain e = never e
-    by (matrix i t) e = never e
-    by (side i) e = never e
+resource-earlier : (vs : List ℕ) {ns : List Node} {x : Newest} → View ns x → joined Resource vs x .placed ≡ true → joined Resource vs x .earlier ≡ drop 1 ns
+unfolding joined
+resource-earlier vs seesProcessor e = refl
+resource-earlier vs seesMatrix e = never e
+resource-earlier vs seesSide e = never e
+resource-earlier vs seesWindow e = never e
+resource-earlier vs seesXor e = never e
+resource-earlier vs seesOther e = never e
 
 -- a test of references, by the nodes before the record's own
 module _ (ok : List Node → ℕ → ℕ → Bool) (P : List Node → ℕ → ℕ → Type 0) (names : (ns : List Node) (v ty : ℕ) → Tests (ok ns v ty) (P ns v ty)) (vs : List ℕ) where
@@ -358,7 +463,7 @@ module _ (ok : List Node → ℕ → ℕ → Bool) (P : List Node → ℕ → �
       → Tests (refsGood (ok (step k vs ns .earlier)) (body k) vs) (References (P (earlier (joins k) ns)) (body k) vs)
   unfolding step body refsGood
   tests-refs Processor ns e = tests-refer Processor ns
-  tests-refs Resource ns e = rw (resource-earlier vs ns e) (tests-refer Resource (drop 1 ns))
+  tests-refs Resource ns e = rw (resource-earlier vs (view ns) e) (tests-refer Resource (drop 1 ns))
   tests-refs Cache ns e = tests-refer Cache ns
   tests-refs Memory ns e = tests-true
   tests-refs Acpi ns e = tests-true
@@ -371,6 +476,45 @@ module _ (ok : List Node → ℕ → ℕ → Bool) (P : List Node → ℕ → �
   tests-refs Cell ns e = tests-true
   tests-refs Side ns e = tests-true
   tests-refs Handle ns e = tests-true
+  tests-refs Bridge ns e = tests-true
+  tests-refs Window ns e = tests-true
+  tests-refs WindowTarget ns e = tests-true
+  tests-refs Xor ns e = tests-true
+  tests-refs Map ns e = tests-true
+
+-- ---- what comes behind a node that lacks entries
+
+-- o is the kind that b names in table t, or none
+target-comes : (t : Table) (b : ℕ) → Tests (isKind WindowTarget (kindOf t b)) (OfKind t b WindowTarget)
+target-comes t b = by (kindOf t b) refl
+  where
+    by : (o : Option Kind) → kindOf t b ≡ o → Tests (isKind WindowTarget o) (OfKind t b WindowTarget)
+    by none e = tests-no λ h. kind-none t b e (h .0)
+    by (some k) e =
+        let o = kind-then t b k e in
+        record { right = λ q. (o .0, o .1 ∙ eqb-true (kindNumber k) 66 q); wrong = λ q h. eqb-false (kindNumber k) 66 q (sym (o .1) ∙ h .1) }
+
+-- the newest node lacks entries and none comes: 11; or not
+abbrev pub Decided : Newest → Table → ℕ → Type 0
+Decided x t b = ((lacking x (kindOf t b) ≡ 0) × (Lacks x → OfKind t b WindowTarget)) ⊎ ((lacking x (kindOf t b) ≡ 11) × ((Lacks x → OfKind t b WindowTarget) → ⊥))
+
+ready-view : {ns : List Node} {x : Newest} → View ns x → (t : Table) (b : ℕ) → Decided x t b
+unfolding lacking
+ready-view (seesProcessor {n} {us} {ns}) t b = inl (needless Resource 58 n (processor (suc n)) us ns (kindOf t b), λ l. absurd (omega arith))
+ready-view seesMatrix t b = inl (refl, λ l. absurd (omega arith))
+ready-view (seesSide {n} {us} {ns}) t b = inl (needless Handle 65535 n (side (suc n)) us ns (kindOf t b), λ l. absurd (omega arith))
+ready-view (seesWindow {n} {us} {ns}) t b = by (ltb (length us - 7) n) refl (isKind WindowTarget (kindOf t b)) refl
+  where
+    by : (x : Bool) → ltb (length us - 7) n ≡ x → (y : Bool) → isKind WindowTarget (kindOf t b) ≡ y
+        → ((_≡_ {A = ℕ} (pick (both x (not y)) 11 0) 0) × (length us - 7 < n → OfKind t b WindowTarget)) ⊎ ((_≡_ {A = ℕ} (pick (both x (not y)) 11 0) 11) × ((length us - 7 < n → OfKind t b WindowTarget) → ⊥))
+    by false q y i = inl (refl, λ l. absurd (omega (arith, ltb-false (length us - 7) n q)))
+    by true q true i = inl (refl, λ l. target-comes t b .right i)
+    by true q false i = inr (refl, λ h. target-comes t b .wrong i (h (ltb-true (length us - 7) n q)))
+ready-view (seesXor {n} {us} {ns}) t b = inl (needless Map 255 n (xor (suc n)) us ns (kindOf t b), λ l. absurd (omega arith))
+ready-view seesOther t b = inl (refl, λ l. absurd (omega arith))
+
+pub decided : (ns : List Node) (t : Table) (b : ℕ) → Decided (newest ns) t b
+decided ns t b = ready-view (view ns) t b
 
 -- ---- all faults of a whole record
 

@@ -12,7 +12,7 @@ use Rattle.format.specs.Bytes.{pick, both, all, le, value, join, part}
 use Rattle.format.specs.Layout.{Item, fix, fld, two, to, orNone, wide, asIs, width, layWith, fieldsWith, fixedOk}
 use Rattle.format.specs.Form.{Form, layout, ranges}
 use Rattle.format.specs.Node.{Node, node, bytes, nodeAt}
-use Rattle.format.specs.Kind.{Kind, Processor, Resource, Cache, Memory, Acpi, Pci, Rintc, Domain, Matrix, Initiator, Target, Cell, Side, Handle, kindNumber, body}
+use Rattle.format.specs.Kind.{Kind, Processor, Resource, Cache, Memory, Acpi, Pci, Rintc, Domain, Matrix, Initiator, Target, Cell, Side, Handle, Bridge, Window, WindowTarget, Xor, Map, kindNumber, body}
 use Rattle.format.specs.Normal.{call}
 use Rattle.format.specs.Read.{sound}
 use Rattle.format.specs.Field.{firstBad, badIn, badField}
@@ -141,6 +141,11 @@ call-join k vs = rw (lay-join asIs (body k) vs) (by k)
     by Cell = refl
     by Side = refl
     by Handle = refl
+    by Bridge = refl
+    by Window = refl
+    by WindowTarget = refl
+    by Xor = refl
+    by Map = refl
 
 pub length-call : (k : Kind) (vs : List ℕ) → length (call k vs) ≡ suc (width (body k))
 length-call k vs = ap suc (length-lay asIs (body k) vs)

@@ -1,5 +1,5 @@
 -- Fields that are joined or set fit, and references of joined layouts stay good, by induction over the items or the index.
-use mathlib.Core.Path.{_≡_, refl, sym, ap}
+use mathlib.Core.Path.{_≡_, refl, ap}
 use Prim.Native.Nat.{ℕ, zero, suc, _+_, _^_, _≤_, _<_}
 use mathlib.Core.List.{List, [], _∷_, _++_}
 use mathlib.Core.Bool.{Bool, true}
@@ -11,17 +11,6 @@ use Rattle.format.specs.Bytes.{at}
 use Rattle.format.specs.Layout.{Item, fix, fld, two, to, orNone, arity, arities, asIs, number, isGood, refsGood}
 use Rattle.laws.proofs.Lays.{Fit, FitItem, Low, both-true, rest-length, item-append}
 use Rattle.laws.proofs.Shapes.{Plain}
-
--- a field by its place, and as the first of the fields from there on
-
-pub second : (vs : List ℕ) → at vs 1 ≡ at (drop 1 vs) 0
-second vs = sym (getD-drop 1 vs 0 0)
-
-pub third : (vs : List ℕ) → at vs 2 ≡ at (drop 1 (drop 1 vs)) 0
-third vs = rw drop-drop (sym (getD-drop 2 vs 0 0))
-
-pub fourth : (vs : List ℕ) → at vs 3 ≡ at (drop 1 (drop 1 (drop 1 vs))) 0
-fourth vs = rw (drop-drop, drop-drop) (sym (getD-drop 3 vs 0 0))
 
 -- ---- one item
 

@@ -8,13 +8,13 @@ use native.Mathlib.Omega.{arith}
 use native.Mathlib.Nat.{pow-le-pow-right, zero-lt-suc, lt-of-lt-of-le}
 use lib.ListN.{length, take, drop, replicate, length-take}
 use lib.Seq.{drop-drop}
-use lib.Dec.{eqb, leb}
-use borrow.Author.Tests.{eqb-true, leb-true, not-false}
+use lib.Dec.{eqb, leb, ltb}
+use borrow.Author.Tests.{eqb-true, leb-true, ltb-true, not-false}
 use Rattle.format.specs.Bytes.{pick, all, Bytes, at, value, part}
-use Rattle.format.specs.Layout.{Item, fix, wide, arities, isFixed, width, fieldsWith, fields, fixedOk, refsGood}
+use Rattle.format.specs.Layout.{Item, fix, wide, asIs, arities, isFixed, width, fieldsWith, fields, fixedOk, refsGood}
 use Rattle.format.specs.Table.{Table, revision}
-use Rattle.format.specs.Form.{Form, processor, cache, memory, acpi, pci, rintc, domain, matrix, side, size, typeOf, layout, ranges}
-use Rattle.format.specs.Row.{Row, processors, caches, memories, initiators, rintcs, domains, matrices, sides, home, rowType, column, matches, rowOf, formIn}
+use Rattle.format.specs.Form.{Form, processor, cache, memory, acpi, pci, rintc, domain, matrix, side, bridge, window, xor, size, typeOf, layout, registers, ways, ranges}
+use Rattle.format.specs.Row.{Row, processors, caches, memories, initiators, rintcs, domains, matrices, sides, bridges, windows, xors, home, rowType, column, matches, rowOf, formIn}
 use Rattle.format.specs.Node.{Node, bytes, nodeAt, Entry, atPlace, atOrdinal, placeOf, ordinalOf}
 use Rattle.format.specs.Read.{sizeIn, sound, recordFault}
 use Rattle.laws.specs.Rename.{rename}
@@ -23,8 +23,9 @@ use Rattle.laws.proofs.Bytes.{value-lt, bytes-take, bytes-drop}
 use Rattle.laws.proofs.Finds.{none-first}
 use Rattle.laws.proofs.Lays.{both-true, Fit, fit-length, SaneItem, Sane, fields-fit, fields-rename, lay-rename, fit-rename}
 use Rattle.laws.proofs.Nodes.{width-layout, bytes-node}
+use Rattle.laws.proofs.Offsets.{fields-at}
 use Rattle.laws.proofs.Links.{Rising, ordinal-below, back, place-zero, ordinal-zero, refs-kept}
-use Rattle.laws.proofs.Shapes.{Within, tableFor, type-for, ranges-rename}
+use Rattle.laws.proofs.Shapes.{Within, tableFor, type-for, ranges-rename, within-rename}
 use Rattle.laws.proofs.Good.{GoodNode}
 use Rattle.laws.proofs.Masks.{row-then, row-home}
 
@@ -47,26 +48,46 @@ part-below bs p n h =
     lt-of-lt-of-le (value-lt c (bytes-take n (drop p bs) (bytes-drop p bs h))) (pow-le-pow-right (zero-lt-suc 255) l)
 
 -- the form that is read in a record of a row is a form of that row, with its counts within their limits
-row-form : (r : Row) (bs : List ℕ) → Bytes bs → column r bs ≡ true → (rowFor (formIn r bs) ≡ r) × Within (formIn r bs)
-unfolding formIn column
-row-form processors bs h e =
-    let p = both-true (leb (length bs) 252) _ (both-true (leb 20 (length bs)) _ e .1) in
-    (refl, omega (arith, leb-true (length bs) 252 (p .0)))
-row-form caches bs h e = (refl, tt)
-row-form memories bs h e = (refl, tt)
-row-form initiators bs h e = split (eqb (at bs 3) 0)
-  where
-    split : (x : Bool) → (rowFor (pick x acpi pci) ≡ initiators) × Within (pick x acpi pci)
-    split true = (refl, tt)
-    split false = (refl, tt)
-row-form rintcs bs h e = (refl, tt)
-row-form domains bs h e = (refl, tt)
-row-form matrices bs h e =
-    let i = value (part bs 12 4) in
-    let t = value (part bs 16 4) in
-    let p = both-true (leb i 255) (leb t 255) (both-true (leb 32 (length bs)) _ e .1) in
-    (refl, (leb-true i 255 (p .0), leb-true t 255 (p .1)))
-row-form sides bs h e = (refl, omega (arith, part-below bs 30 2 h))
+module _ (bs : List ℕ) (h : Bytes bs) where
+  abbrev Formed : Row → Form → Type 0
+  Formed r f = all (ranges f (fields (layout f) bs)) ≡ true → (rowFor f ≡ r) × Within f (fields (layout f) bs)
+
+  -- a field of a layout, where it stands
+  version-at : (n : ℕ) → at (fields (layout (bridge n)) bs) 1 ≡ value (part bs 8 4)
+  unfolding layout
+  version-at n = rw (fields-at asIs (layout (bridge n)) bs 0)
+
+  code-at : (n : ℕ) → at (fields (layout (window n)) bs) 2 ≡ value (part bs 24 1)
+  unfolding layout
+  code-at n = rw (fields-at asIs (layout (window n)) bs 0)
+
+  row-form : (r : Row) → column r bs ≡ true → Formed r (formIn r bs)
+  unfolding formIn column ranges
+  row-form processors e x =
+      let p = both-true (leb (length bs) 252) _ (both-true (leb 20 (length bs)) _ e .1) in
+      (refl, omega (arith, leb-true (length bs) 252 (p .0)))
+  row-form caches e x = (refl, tt)
+  row-form memories e x = (refl, tt)
+  row-form initiators e x = split (eqb (at bs 3) 0)
+    where
+      split : (x : Bool) → (rowFor (pick x acpi pci) ≡ initiators) × Within (pick x acpi pci) (fields (layout (pick x acpi pci)) bs)
+      split true = (refl, tt)
+      split false = (refl, tt)
+  row-form rintcs e x = (refl, tt)
+  row-form domains e x = (refl, tt)
+  row-form matrices e x =
+      let i = value (part bs 12 4) in
+      let t = value (part bs 16 4) in
+      let p = both-true (leb i 255) (leb t 255) (both-true (leb 32 (length bs)) _ e .1) in
+      (refl, (leb-true i 255 (p .0), leb-true t 255 (p .1)))
+  row-form sides e x = (refl, omega (arith, part-below bs 30 2 h))
+  row-form bridges e x = let v = value (part bs 8 4) in (refl, (rw (version-at (registers v)) (part-below bs 8 4 h), rw (version-at (registers v))))
+  row-form windows e x =
+      let c = value (part bs 24 1) in
+      let vs = fields (layout (window (ways c))) bs in
+      let p = both-true (ltb 0 (ways (at vs 2))) _ x in
+      (refl, (rw (code-at (ways c)) (part-below bs 24 1 h), rw (code-at (ways c)), rw (← code-at (ways c)) (ltb-true 0 (ways (at vs 2)) (p .0))))
+  row-form xors e x = (refl, omega (arith, part-below bs 7 1 h))
 
 -- ---- its layout
 
@@ -89,6 +110,9 @@ sane-layout rintc = search arith
 sane-layout domain = search arith
 sane-layout (matrix i t) = search (arith, sane-replicate, sane-append)
 sane-layout (side n) = search (arith, sane-replicate)
+sane-layout (bridge n) = search (arith, sane-replicate)
+sane-layout (window n) = search (arith, sane-replicate)
+sane-layout (xor n) = search (arith, sane-replicate)
 
 -- a fixed number behind other items is the one it has to be
 fixed-at : (is : List Item) (w v : ℕ) (js : List Item) (bs : List ℕ) → fixedOk (is ++ fix w v ∷ js) bs ≡ true → value (part bs (width is) w) ≡ v
@@ -108,6 +132,9 @@ size-found rintc bs e = fixed-at (fix 1 7 ∷ []) 1 (size rintc) _ bs e
 size-found domain bs e = fixed-at (fix 2 0 ∷ fix 2 0 ∷ []) 4 (size domain) _ bs e
 size-found (matrix i t) bs e = fixed-at (fix 2 1 ∷ fix 2 0 ∷ []) 4 (size (matrix i t)) _ bs e
 size-found (side n) bs e = fixed-at (fix 2 2 ∷ fix 2 0 ∷ []) 4 (size (side n)) _ bs e
+size-found (bridge n) bs e = fixed-at (fix 1 0 ∷ fix 1 0 ∷ []) 2 (size (bridge n)) _ bs e
+size-found (window n) bs e = fixed-at (fix 1 1 ∷ fix 1 0 ∷ []) 2 (size (window n)) _ bs e
+size-found (xor n) bs e = fixed-at (fix 1 2 ∷ fix 1 0 ∷ []) 2 (size (xor n)) _ bs e
 
 -- ---- the record
 
@@ -132,7 +159,7 @@ found t b es bs rev ty r rising few h e n z =
     let good = not-false (refsGood (atPlace es) is vs) c in
     let (fixed, ruled) = both-true (fixedOk is bs) (all (ranges f vs)) s in
     let (type, col) = row-tests rev ty bs r (row-then rev ty bs t r e) in
-    let (row, within) = row-form r bs h col in
+    let (row, within) = row-form bs h r col ruled in
     let own : tableFor f ≡ t = ap home row ∙ row-home rev ty bs t r e in
     let long : size f ≡ length bs = sym (size-found f bs fixed) ∙ (rw (← own) at n) in
     let wide : width is ≡ size f = width-layout f in
@@ -145,7 +172,7 @@ found t b es bs rev ty r rising few h e n z =
     record {
       good = record {
         own = own;
-        within = within;
+        within = rw g (within-rename (ordinalOf es) f vs many within);
         fit = rw g fit′;
         ruled = rw (g, ranges-rename (ordinalOf es) f vs many, ruled);
         refs = rw g (kept .0);

@@ -13,7 +13,7 @@ use Rattle.format.specs.Bytes.{pick, all, Answer, given, at}
 use Rattle.format.specs.Layout.{arities, lay, fields, fixedOk, refsGood}
 use Rattle.format.specs.Table.{Table, revision, front, limit, least}
 use Rattle.format.specs.Form.{size, typeOf, layout, ranges}
-use Rattle.format.specs.Row.{Row, processors, caches, memories, initiators, rintcs, domains, matrices, sides, formIn, knows, known, rowOf}
+use Rattle.format.specs.Row.{Row, processors, caches, memories, initiators, rintcs, domains, matrices, sides, bridges, windows, xors, formIn, knows, known, rowOf}
 use Rattle.format.specs.Node.{Node, bytes, nodeAt, Entry, entry, sizes, starts, atPlace, atOrdinal, placeOf, ordinalOf}
 use Rattle.format.specs.Build.{records}
 use Rattle.format.specs.Read.{sizeIn, typeIn, framed, Frames, badFrame, framedAt, frames, sound, recordFault, Seen, entryOf, push, walk, shown, fieldsOf}
@@ -30,7 +30,7 @@ use Rattle.laws.proofs.Shapes.{Within, tableFor, least-size, type-in, s
 
 pub record GoodNode (t : Table) (es : List Entry) (n : Node) : Type 0 where
   pub own : tableFor (n .form) ≡ t
-  pub within : Within (n .form)
+  pub within : Within (n .form) (n .values)
   pub fit : Fit (layout (n .form)) (n .values)
   pub ruled : all (ranges (n .form) (n .values)) ≡ true
   pub refs : refsGood (atOrdinal es) (layout (n .form)) (n .values) ≡ true
@@ -82,6 +82,9 @@ knows-every rintcs = refl
 knows-every domains = refl
 knows-every matrices = refl
 knows-every sides = refl
+knows-every bridges = refl
+knows-every windows = refl
+knows-every xors = refl
 
 -- ---- one record of a good node
 

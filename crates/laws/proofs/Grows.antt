@@ -1,25 +1,28 @@
 -- A record that is not refused makes good nodes of good nodes: kind by kind, from the layouts.
-use mathlib.Core.Path.{_≡_, refl}
-use Prim.Native.Nat.{ℕ, suc, _+_, _*_, _^_, _≤_, _<_}
+use mathlib.Core.Path.{_≡_, refl, sym, ap, _∙_}
+use Prim.Native.Nat.{ℕ, suc, _+_, _-_, _*_, _^_, _≤_, _<_}
 use mathlib.Core.List.{List, [], _∷_, _++_}
 use mathlib.Core.Bool.{Bool, true, false, not}
 use native.Mathlib.Omega.{arith}
 use lib.ListN.{length, drop, set, replicate, List·getD-append}
-use lib.Dec.{leb, ltb}
-use borrow.Author.Tests.{leb-true, ltb-true, ltb-false, leb-false, not-false, le-ltb}
-use Rattle.format.specs.Bytes.{both, all, at}
-use Rattle.format.specs.Layout.{fld, to, arities, refsGood}
-use Rattle.format.specs.Table.{Table, pptt, srat, hmat, front, limit}
-use Rattle.format.specs.Form.{Form, processor, cache, memory, acpi, pci, rintc, domain, matrix, side, layout, ranges}
+use lib.Dec.{leb, ltb, eqb}
+use borrow.Author.Tests.{leb-true, ltb-true, ltb-false, leb-false, not-false, le-ltb, eqb-true}
+use Rattle.format.specs.Bytes.{both, all, find, at, pick}
+use Rattle.format.specs.Layout.{fld, to, arities, refsGood, Item, fix}
+use Rattle.format.specs.Table.{Table, pptt, srat, hmat, cedt, front, limit}
+use Rattle.format.specs.Form.{Form, processor, cache, memory, acpi, pci, rintc, domain, matrix, side, bridge, window, xor, typeOf, size, middle, layout, registers, ways, ranges}
 use Rattle.format.specs.Node.{Node, node, Entry, sizes, starts, isOrdinal, atOrdinal}
-use Rattle.format.specs.Kind.{Kind, Processor, Resource, Cache, Memory, Acpi, Pci, Rintc, Domain, Matrix, Initiator, Target, Cell, Side, Handle, body}
-use Rattle.format.specs.Recipe.{Newest, aProcessor, aMatrix, aSide, other, newestAs, newest, resource, handle, setting, unset, step, added, fault}
+use Rattle.format.specs.Kind.{Kind, Processor, Resource, Cache, Memory, Acpi, Pci, Rintc, Domain, Matrix, Initiator, Target, Cell, Side, Handle, Bridge, Window, WindowTarget, Xor, Map, kindNumber, isKind, body}
+use Rattle.format.specs.Recipe.{Newest, aList, aMatrix, other, newestAs, newest, joined, setting, unset, step, added, fault, lacking}
 use Rattle.laws.proofs.Finds.{never, none-first}
 use Rattle.laws.proofs.Lays.{Fit, both-true, fit-length}
 use Rattle.laws.proofs.Links.{refs-backward}
-use Rattle.laws.proofs.Shapes.{size-below, plain-fld, plain-matrix}
-use Rattle.laws.proofs.Fits.{second, third, fix-fit, zero-fit, fld-fit, wider, fit-append, good-append, replicate-snoc, plain-good, fit-same, set-front, set-behind}
+use Rattle.laws.proofs.Shapes.{size-below, plain-fld, plain-matrix, Within, second, third, few-ways}
+use Rattle.laws.proofs.Fits.{fix-fit, zero-fit, fld-fit, wider, fit-append, good-append, replicate-snoc, plain-good, fit-same, set-front, set-behind}
 use Rattle.laws.proofs.Good.{GoodNode, Good}
+use mathlib.Core.Logic.{_⊎_, inl, inr}
+use mathlib.Core.Option.{Option, some}
+use Rattle.laws.proofs.Changes.{arities-same}
 
 -- ---- no test of the list was true
 
@@ -49,9 +52,11 @@ no-fault t ns k vs p =
 -- ---- the newest node
 
 pub data View : List Node → Newest → Type 0 where
-  seesProcessor : {n : ℕ} {us : List ℕ} {ns : List Node} → View (node (processor n) us ∷ ns) (aProcessor n us ns)
+  seesProcessor : {n : ℕ} {us : List ℕ} {ns : List Node} → View (node (processor n) us ∷ ns) (aList Resource 0 58 n (processor (suc n)) us ns)
   seesMatrix : {i t : ℕ} {us : List ℕ} {ns : List Node} → View (node (matrix i t) us ∷ ns) (aMatrix i t us ns)
-  seesSide : {n : ℕ} {us : List ℕ} {ns : List Node} → View (node (side n) us ∷ ns) (aSide n us ns)
+  seesSide : {n : ℕ} {us : List ℕ} {ns : List Node} → View (node (side n) us ∷ ns) (aList Handle 0 65535 n (side (suc n)) us ns)
+  seesWindow : {n : ℕ} {us : List ℕ} {ns : List Node} → View (node (window n) us ∷ ns) (aList WindowTarget n n (length us - 7) (window n) us ns)
+  seesXor : {n : ℕ} {us : List ℕ} {ns : List Node} → View (node (xor n) us ∷ ns) (aList Map 0 255 n (xor (suc n)) us ns)
   seesOther : {ns : List Node} → View ns other
 
 view-as : (f : Form) (us : List ℕ) (ns : List Node) → View (node f us ∷ ns) (newestAs f us ns)
@@ -64,12 +69,23 @@ view-as rintc us ns = seesOther
 view-as domain us ns = seesOther
 view-as (matrix i t) us ns = seesMatrix
 view-as (side n) us ns = seesSide
+view-as (bridge n) us ns = seesOther
+view-as (window n) us ns = seesWindow
+view-as (xor n) us ns = seesXor
 
 pub view : (ns : List Node) → View ns (newest ns)
 view [] = seesOther
 view (n ∷ ns) = view-as (n .form) (n .values) ns
 
 -- ---- the node of a kind that makes one
+
+pub registers-below : (v : ℕ) → registers v < 256 ^ 8
+unfolding registers
+registers-below v = by (eqb v 0)
+  where
+    by : (x : Bool) → pick x 8192 65536 < 256 ^ 8
+    by true = omega arith
+    by false = omega arith
 
 module _ (es : List Entry) (vs : List ℕ) where
   new-processor : Fit (body Processor) vs → refsGood (atOrdinal es) (body Processor) vs ≡ true → GoodNode pptt es (node (processor 0) vs)
@@ -107,6 +123,17 @@ module _ (es : List Entry) (vs : List ℕ) where
   new-side f r =
       record { own = refl; within = omega arith; fit = (fix-fit (omega arith), (fix-fit (omega arith), (fix-fit (omega arith), (f .0, (fix-fit (omega arith), (f .1 .0, (f .1 .1 .0, (fix-fit (omega arith), (fix-fit (omega arith), f .1 .1 .1))))))))); ruled = r; refs = refl }
 
+  new-bridge : Fit (body Bridge) vs → all (ranges (bridge (registers (at vs 1))) vs) ≡ true → GoodNode cedt es (node (bridge (registers (at vs 1))) vs)
+  unfolding body layout refsGood
+  new-bridge f r =
+      let b : at vs 1 < 256 ^ 1 = rw (second vs) (f .1 .0 .below) in
+      record { own = refl; within = (omega arith, refl); fit = (fix-fit (omega arith), (fix-fit (omega arith), (fix-fit (omega arith), (f .0, (wider (omega arith) (f .1 .0), (fix-fit (omega arith), (f .1 .1 .0, (fix-fit (registers-below (at vs 1)), f .1 .1 .1)))))))); ruled = r; refs = refl }
+
+  new-xor : Fit (body Xor) vs → all (ranges (xor 0) vs) ≡ true → GoodNode cedt es (node (xor 0) vs)
+  unfolding body layout refsGood
+  new-xor f r =
+      record { own = refl; within = omega arith; fit = (fix-fit (omega arith), (fix-fit (omega arith), (fix-fit (omega arith), (fix-fit (omega arith), (f .0, (fix-fit (omega arith), f .1)))))); ruled = r; refs = refl }
+
 -- six fields, taken apart
 new-pci : (es : List Entry) (vs : List ℕ) → length vs ≡ 6 → Fit (body Pci) vs → all (ranges pci vs) ≡ true → GoodNode srat es (node pci vs)
 unfolding body layout ranges refsGood
@@ -137,7 +164,7 @@ new-matrix es (a ∷ b ∷ c ∷ d ∷ i ∷ t ∷ vs) l f r =
     record {
       own = refl;
       within = (wi, wt);
-      fit = (fix-fit (omega arith), (fix-fit (omega arith), (fix-fit (size-below (matrix i t) (wi, wt)), (fld-fit (f .0 .below), (fld-fit (f .1 .0 .below), (fld-fit (f .1 .1 .0 .below), (fix-fit (omega arith), (fix-fit (omega arith), (fix-fit (omega arith), (fix-fit (omega arith), (fld-fit (f .1 .1 .1 .0 .below), fit-append (replicate (i + t) (fld 4)) (replicate (i * t) (fld 2)) (replicate (i + t) 0) (replicate (i * t) 65535) (fit-same (i + t) 4 0 (omega arith)) (fit-same (i * t) 2 65535 (omega arith)))))))))))));
+      fit = (fix-fit (omega arith), (fix-fit (omega arith), (fix-fit (size-below (matrix i t) (a ∷ b ∷ c ∷ d ∷ i ∷ t ∷ vs) (wi, wt)), (fld-fit (f .0 .below), (fld-fit (f .1 .0 .below), (fld-fit (f .1 .1 .0 .below), (fix-fit (omega arith), (fix-fit (omega arith), (fix-fit (omega arith), (fix-fit (omega arith), (fld-fit (f .1 .1 .1 .0 .below), fit-append (replicate (i + t) (fld 4)) (replicate (i * t) (fld 2)) (replicate (i + t) 0) (replicate (i * t) 65535) (fit-same (i + t) 4 0 (omega arith)) (fit-same (i * t) 2 65535 (omega arith)))))))))))));
       ruled = r;
       refs = plain-good (atOrdinal es) (replicate (i + t) (fld 4) ++ replicate (i * t) (fld 2)) _ (plain-matrix i t);
     }
@@ -174,6 +201,151 @@ module _ (es : List Entry) (n : ℕ) (us vs : List ℕ) where
         ruled = rw e (g .ruled);
         refs = plain-good (atOrdinal es) (fld 2 ∷ replicate n (fld 2)) (drop 1 (drop 1 (drop 1 (us ++ vs)))) (plain-fld n 2);
       }
+
+  more-xor : GoodNode cedt es (node (xor n) us) → Fit (body Map) vs → suc n ≤ 255 → GoodNode cedt es (node (xor (suc n)) (us ++ vs))
+  unfolding body layout ranges refsGood
+  more-xor g f w =
+      let z = fit-append (layout (xor n)) (fld 8 ∷ []) us vs (g .fit) f in
+      let y : Fit (fld 8 ∷ replicate n (fld 8)) (drop 1 (us ++ vs)) = rw (replicate-snoc n (fld 8)) at (z .1 .1 .1 .1 .1 .1) in
+      let l : length us ≡ arities (layout (xor n)) = fit-length (layout (xor n)) us (g .fit) in
+      let e : at (us ++ vs) 0 ≡ at us 0 = List·getD-append us vs 0 0 (omega arith) in
+      record {
+        own = refl;
+        within = w;
+        fit = (fix-fit (omega arith), (fix-fit (omega arith), (fix-fit (omega arith), (fix-fit (omega arith), (z .1 .1 .1 .1 .0, (fix-fit (omega arith), y))))));
+        ruled = rw e (g .ruled);
+        refs = plain-good (atOrdinal es) (fld 8 ∷ replicate n (fld 8)) (drop 1 (us ++ vs)) (plain-fld n 8);
+      }
+
+-- ---- a window, target by target
+
+-- the layout of a window of n ways as far as its first k targets
+abbrev upto : ℕ → ℕ → List Item
+upto n k = middle (window n) (fix 4 0 ∷ fld 8 ∷ fld 8 ∷ fld 1 ∷ fld 1 ∷ fix 2 0 ∷ fld 4 ∷ fld 2 ∷ fld 2 ∷ replicate k (fld 4))
+
+-- what holds of its fields then
+pub record Growing (n k : ℕ) (us : List ℕ) : Type 0 where
+  pub within : Within (window n) us
+  pub fit : Fit (upto n k) us
+  pub ruled : all (ranges (window n) us) ≡ true
+  pub few : k ≤ n
+
+upto-length : (n k : ℕ) (us : List ℕ) → Fit (upto n k) us → length us ≡ 7 + k
+upto-length n k us f = omega (arith, fit-length (upto n k) us f, arities-same k 4)
+
+growing-length : (n k : ℕ) (us : List ℕ) → Growing n k us → length us ≡ 7 + k
+growing-length n k us g = upto-length n k us (g .fit)
+
+window-size : (n : ℕ) (vs : List ℕ) → Within (window n) vs → size (window n) < 256 ^ 2
+window-size n vs w = omega (arith, few-ways (at vs 2), w .1)
+
+new-window : (vs : List ℕ) → Fit (body Window) vs → all (ranges (window (ways (at vs 2))) vs) ≡ true → Growing (ways (at vs 2)) 0 vs
+unfolding body ranges
+new-window vs f r =
+    let n = ways (at vs 2) in
+    let b : at vs 2 < 256 ^ 1 = rw (third vs) (f .1 .1 .0 .below) in
+    let z = both-true (ltb 0 n) _ r in
+    let w : Within (window n) vs = (b, refl, ltb-true 0 n (z .0)) in
+    record {
+      within = w;
+      fit = (fix-fit (omega arith), (fix-fit (omega arith), (fix-fit (window-size n vs w), (fix-fit (omega arith), (f .0, (f .1 .0, (f .1 .1 .0, (f .1 .1 .1 .0, (fix-fit (omega arith), (wider (omega arith) (f .1 .1 .1 .1 .0), (wider (omega arith) (f .1 .1 .1 .1 .1 .0), (f .1 .1 .1 .1 .1 .1 .0, f .1 .1 .1 .1 .1 .1 .1))))))))))));
+      ruled = r;
+      few = omega arith;
+    }
+
+more-window : (n k : ℕ) (us vs : List ℕ) → Growing n k us → Fit (body WindowTarget) vs → suc k ≤ n → Growing n (suc k) (us ++ vs)
+unfolding body ranges
+more-window n k us vs g f w =
+    let l = growing-length n k us g in
+    let z = fit-append (upto n k) (fld 4 ∷ []) us vs (g .fit) f in
+    let q = z .1 .1 .1 .1 .1 .1 .1 .1 .1 .1 .1 .1 in
+    let y : Fit (fld 4 ∷ replicate k (fld 4)) (drop 1 (drop 1 (drop 1 (drop 1 (drop 1 (drop 1 (drop 1 (us ++ vs)))))))) = rw (replicate-snoc k (fld 4)) at q in
+    let same : (i : ℕ) → i < 7 → at (us ++ vs) i ≡ at us i = λ i h. List·getD-append us vs 0 i (omega arith) in
+    record {
+      within = rw (same 2 (omega arith)) (g .within);
+      fit = (z .0, (z .1 .0, (z .1 .1 .0, (z .1 .1 .1 .0, (z .1 .1 .1 .1 .0, (z .1 .1 .1 .1 .1 .0, (z .1 .1 .1 .1 .1 .1 .0, (z .1 .1 .1 .1 .1 .1 .1 .0, (z .1 .1 .1 .1 .1 .1 .1 .1 .0, (z .1 .1 .1 .1 .1 .1 .1 .1 .1 .0, (z .1 .1 .1 .1 .1 .1 .1 .1 .1 .1 .0, (z .1 .1 .1 .1 .1 .1 .1 .1 .1 .1 .1 .0, y))))))))))));
+      ruled = rw (same 2 (omega arith), same 3 (omega arith), same 4 (omega arith), same 5 (omega arith)) (g .ruled);
+      few = w;
+    }
+
+all-there : (es : List Entry) (n : ℕ) (us : List ℕ) → Growing n n us → GoodNode cedt es (node (window n) us)
+unfolding layout refsGood
+all-there es n us g = record { own = refl; within = g .within; fit = g .fit; ruled = g .ruled; refs = plain-good (atOrdinal es) (upto n n) us (plain-fld n 4) }
+
+-- ---- nodes of which the newest may lack entries
+
+-- the newest is a window with some of its targets
+abbrev Part : Table → List Node → Type 0
+Part t [] = ⊥
+Part t (x ∷ ns) = (n : ℕ) × (k : ℕ) × (t ≡ cedt) × (x .form ≡ window n) × Growing n k (x .values) × Good t ns
+
+abbrev pub Grown : Table → List Node → Type 0
+Grown t ns = Good t ns ⊎ Part t ns
+
+-- of another table they are good
+pub grown-good : (t : Table) (ns : List Node) → (t ≡ cedt → ⊥) → Grown t ns → Good t ns
+grown-good t ns w (inl g) = g
+grown-good t [] w (inr p) = absurd p
+grown-good t (x ∷ ns) w (inr (n, k, own, f, g, rest)) = absurd (w own)
+
+-- a window has its seven fields at least
+pub window-begun : (t : Table) (n : ℕ) (us : List ℕ) (ns : List Node) → Grown t (node (window n) us ∷ ns) → 7 ≤ length us
+unfolding layout
+window-begun t n us ns (inl g) = omega (arith, upto-length n n us (g .0 .fit))
+window-begun t n us ns (inr (m, k, own, f, g, rest)) = omega (arith, growing-length m k us g)
+
+-- and 16 targets at most
+pub few-targets : (n : ℕ) (us : List ℕ) (ns : List Node) → Grown cedt (node (window n) us ∷ ns) → n ≤ 16
+few-targets n us ns (inl g) = omega (arith, few-ways (at us 2), g .0 .within .1)
+few-targets n us ns (inr (m, k, own, f, g, rest)) =
+    let e : 36 + 4 * n ≡ 36 + 4 * m = ap size f in
+    omega (arith, few-ways (at us 2), g .within .1)
+
+-- maths have a field for each map, and one before
+pub maths-fields : (n : ℕ) (us : List ℕ) (ns : List Node) → Grown cedt (node (xor n) us ∷ ns) → length us ≡ 1 + n
+unfolding layout
+maths-fields n us ns (inl g) = omega (arith, fit-length (layout (xor n)) us (g .0 .fit), arities-same n 8)
+maths-fields n us ns (inr (m, k, own, f, g, rest)) = absurd (let z : typeOf (xor n) ≡ typeOf (window m) = ap typeOf f in omega arith)
+
+-- a list that needs no entry lacks none
+pub needless : (j : Kind) (most n : ℕ) (f : Form) (us : List ℕ) (ns : List Node) (o : Option Kind) → lacking (aList j 0 most n f us ns) o ≡ 0
+unfolding lacking
+needless j most n f us ns o = rw (le-ltb n 0 (omega arith))
+
+-- a window with all its targets lacks none
+lacks-none : (n : ℕ) (us : List ℕ) (ns : List Node) (o : Option Kind) → length us ≡ 7 + n → lacking (newestAs (window n) us ns) o ≡ 0
+unfolding lacking
+lacks-none n us ns o l = rw (le-ltb (length us - 7) n (omega arith))
+
+good-whole : (t : Table) {ns : List Node} {x : Newest} → View ns x → (o : Option Kind) → Good t ns → lacking x o ≡ 0
+unfolding lacking layout
+good-whole t (seesProcessor {n} {us} {ns}) o g = needless Resource 58 n (processor (suc n)) us ns o
+good-whole t seesMatrix o g = refl
+good-whole t (seesSide {n} {us} {ns}) o g = needless Handle 65535 n (side (suc n)) us ns o
+good-whole t (seesWindow {n} {us} {ns}) o g = lacks-none n us ns o (upto-length n n us (g .0 .fit))
+good-whole t (seesXor {n} {us} {ns}) o g = needless Map 255 n (xor (suc n)) us ns o
+good-whole t seesOther o g = refl
+
+-- good nodes lack nothing, whatever comes
+pub good-lacks : (t : Table) (ns : List Node) → Good t ns → (o : Option Kind) → lacking (newest ns) o ≡ 0
+good-lacks t ns g o = good-whole t (view ns) o g
+
+-- where something else comes and nothing is lacking, the nodes are good
+pub whole-good : (t : Table) (ns : List Node) (o : Option Kind) → isKind WindowTarget o ≡ false → lacking (newest ns) o ≡ 0 → Grown t ns → Good t ns
+unfolding lacking
+whole-good t ns o i e (inl g) = g
+whole-good t [] o i e (inr p) = absurd p
+whole-good t (x ∷ ns) o i e (inr (n, k, own, f, w, g)) = by (ltb (length (x .values) - 7) n) refl d
+  where
+    d : _≡_ {A = ℕ} (pick (both (ltb (length (x .values) - 7) n) true) 11 0) 0
+    d = rw (f, i) at e
+
+    by : (y : Bool) → ltb (length (x .values) - 7) n ≡ y → _≡_ {A = ℕ} (pick (both y true) 11 0) 0 → Good t (x ∷ ns)
+    by true q e = absurd (omega arith)
+    by false q e =
+        let l = growing-length n k (x .values) w in
+        let z : k ≡ n = omega (arith, w .few, ltb-false (length (x .values) - 7) n q) in
+        (rw (own, f) (all-there (starts cedt ns) n (x .values) (rw z at w)), g)
 
 -- ---- a setting of a matrix
 
@@ -232,22 +404,87 @@ kindHome Target = hmat
 kindHome Cell = hmat
 kindHome Side = hmat
 kindHome Handle = hmat
+kindHome Bridge = cedt
+kindHome Window = cedt
+kindHome WindowTarget = cedt
+kindHome Xor = cedt
+kindHome Map = cedt
+
+-- the kind of a number, whatever its table
+numbered : ℕ → Option Kind
+numbered b = find (λ k. eqb b (kindNumber k)) (Processor ∷ Resource ∷ Cache ∷ Memory ∷ Acpi ∷ Pci ∷ Rintc ∷ Domain ∷ Matrix ∷ Initiator ∷ Target ∷ Cell ∷ Side ∷ Handle ∷ Bridge ∷ Window ∷ WindowTarget ∷ Xor ∷ Map ∷ [])
+
+number-back : (k : Kind) → numbered (kindNumber k) ≡ some k
+unfolding numbered
+number-back Processor = refl
+number-back Resource = refl
+number-back Cache = refl
+number-back Memory = refl
+number-back Acpi = refl
+number-back Pci = refl
+number-back Rintc = refl
+number-back Domain = refl
+number-back Matrix = refl
+number-back Initiator = refl
+number-back Target = refl
+number-back Cell = refl
+number-back Side = refl
+number-back Handle = refl
+number-back Bridge = refl
+number-back Window = refl
+number-back WindowTarget = refl
+number-back Xor = refl
+number-back Map = refl
+
+pub kind-number : (k j : Kind) → kindNumber k ≡ kindNumber j → k ≡ j
+kind-number k j e = let i : some k ≡ some j = sym (number-back k) ∙ (ap numbered e ∙ number-back j) in cc
 
 module _ (vs : List ℕ) where
-  join-resource : {ns : List Node} {x : Newest} → View ns x → resource vs x .placed ≡ true → resource vs x .full ≡ false
-      → refsGood (atOrdinal (starts pptt (resource vs x .earlier))) (body Resource) vs ≡ true → Fit (body Resource) vs → Good pptt ns → Good pptt (resource vs x .nodes)
-  unfolding resource
+  join-resource : {ns : List Node} {x : Newest} → View ns x → joined Resource vs x .placed ≡ true → joined Resource vs x .full ≡ false
+      → refsGood (atOrdinal (starts pptt (joined Resource vs x .earlier))) (body Resource) vs ≡ true → Fit (body Resource) vs → Good pptt ns → Good pptt (joined Resource vs x .nodes)
+  unfolding joined
   join-resource (seesProcessor {n} {us} {ns}) p r q f g = (more-processor (starts pptt ns) n us vs (g .0) f q (omega (arith, leb-false 58 n r)), g .1)
   join-resource seesMatrix p r q f g = never p
   join-resource seesSide p r q f g = never p
+  join-resource seesWindow p r q f g = never p
+  join-resource seesXor p r q f g = never p
   join-resource seesOther p r q f g = never p
 
-  join-handle : {ns : List Node} {x : Newest} → View ns x → handle vs x .placed ≡ true → handle vs x .full ≡ false → Fit (body Handle) vs → Good hmat ns → Good hmat (handle vs x .nodes)
-  unfolding handle
+  join-handle : {ns : List Node} {x : Newest} → View ns x → joined Handle vs x .placed ≡ true → joined Handle vs x .full ≡ false → Fit (body Handle) vs → Good hmat ns → Good hmat (joined Handle vs x .nodes)
+  unfolding joined
   join-handle seesProcessor p r f g = never p
   join-handle seesMatrix p r f g = never p
   join-handle (seesSide {n} {us} {ns}) p r f g = (more-side (starts hmat ns) n us vs (g .0) f (omega (arith, leb-false 65535 n r)), g .1)
+  join-handle seesWindow p r f g = never p
+  join-handle seesXor p r f g = never p
   join-handle seesOther p r f g = never p
+
+  join-map : {ns : List Node} {x : Newest} → View ns x → joined Map vs x .placed ≡ true → joined Map vs x .full ≡ false → Fit (body Map) vs → Good cedt ns → Good cedt (joined Map vs x .nodes)
+  unfolding joined
+  join-map seesProcessor p r f g = never p
+  join-map seesMatrix p r f g = never p
+  join-map seesSide p r f g = never p
+  join-map seesWindow p r f g = never p
+  join-map (seesXor {n} {us} {ns}) p r f g = (more-xor (starts cedt ns) n us vs (g .0) f (omega (arith, leb-false 255 n r)), g .1)
+  join-map seesOther p r f g = never p
+
+  -- a good window takes no target more
+  target-more : (n : ℕ) (us : List ℕ) (ns : List Node) → leb n (length us - 7) ≡ false → Fit (body WindowTarget) vs → Grown cedt (node (window n) us ∷ ns) → Part cedt (node (window n) (us ++ vs) ∷ ns)
+  unfolding layout
+  target-more n us ns r f (inl g) = absurd (omega (arith, leb-false n (length us - 7) r, upto-length n n us (g .0 .fit)))
+  target-more n us ns r f (inr (m, k, own, i, w, g)) =
+      let e : n ≡ m = cc in
+      let w′ : Growing n k us = rw e w in
+      (n, suc k, refl, refl, more-window n k us vs w′ f (omega (arith, leb-false n (length us - 7) r, growing-length n k us w′)), g)
+
+  join-target : {ns : List Node} {x : Newest} → View ns x → joined WindowTarget vs x .placed ≡ true → joined WindowTarget vs x .full ≡ false → Fit (body WindowTarget) vs → Grown cedt ns → Part cedt (joined WindowTarget vs x .nodes)
+  unfolding joined
+  join-target seesProcessor p r f g = never p
+  join-target seesMatrix p r f g = never p
+  join-target seesSide p r f g = never p
+  join-target (seesWindow {n} {us} {ns}) p r f g = target-more n us ns r f g
+  join-target seesXor p r f g = never p
+  join-target seesOther p r f g = never p
 
 -- a setting is good where it sets a field of a good matrix to a number that fits
 join-setting : (tests : ℕ → ℕ → List Bool) (field : ℕ → ℕ → ℕ) (v : ℕ)
@@ -255,6 +492,8 @@ join-setting : (tests : ℕ → ℕ → List Bool) (field : ℕ → ℕ → ℕ)
     → {ns : List Node} {x : Newest} → View ns x → setting tests field v x .placed ≡ true → all (setting tests field v x .ranges) ≡ true → Good hmat ns → Good hmat (setting tests field v x .nodes)
 unfolding setting
 join-setting tests field v sets seesProcessor p r g = never p
+join-setting tests field v sets seesWindow p r g = never p
+join-setting tests field v sets seesXor p r g = never p
 join-setting tests field v sets (seesMatrix {i} {t} {us} {ns}) p r g = (sets (starts hmat ns) i t us (g .0) r, g .1)
 join-setting tests field v sets seesSide p r g = never p
 join-setting tests field v sets seesOther p r g = never p
@@ -284,19 +523,39 @@ module _ (vs : List ℕ) (ns : List Node) where
       (λ es i t us h r. set-cell es i t us h (at vs 0) (at vs 1) (at vs 2) b)
       (view ns) (p .place) (p .field) g
 
-pub grows : (k : Kind) (vs : List ℕ) (ns : List Node) → Fit (body k) vs → Passed (kindHome k) ns k vs → Good (kindHome k) ns → Good (kindHome k) (added k vs ns)
+-- behind good nodes
+grows-good : (k : Kind) (vs : List ℕ) (ns : List Node) → Fit (body k) vs → Passed (kindHome k) ns k vs → Good (kindHome k) ns → Grown (kindHome k) (added k vs ns)
 unfolding step body
-grows Processor vs ns f p g = (new-processor (starts pptt ns) vs f (p .refs), g)
-grows Resource vs ns f p g = join-resource vs (view ns) (p .place) (p .room) (p .refs) f g
-grows Cache vs ns f p g = (new-cache (starts pptt ns) vs f (p .field) (p .refs), g)
-grows Memory vs ns f p g = (new-memory (starts srat ns) vs f (p .field), g)
-grows Acpi vs ns f p g = (new-acpi (starts srat ns) vs f (p .field), g)
-grows Pci vs ns f p g = (new-pci (starts srat ns) vs (fit-length (body Pci) vs f) f (p .field), g)
-grows Rintc vs ns f p g = (new-rintc (starts srat ns) vs f (p .field), g)
-grows Domain vs ns f p g = (new-domain (starts hmat ns) vs f, g)
-grows Matrix vs ns f p g = (new-matrix (starts hmat ns) vs (fit-length (body Matrix) vs f) f (p .field), g)
-grows Initiator vs ns f p g = grows-initiator vs ns f p g
-grows Target vs ns f p g = grows-target vs ns f p g
-grows Cell vs ns f p g = grows-cell vs ns f p g
-grows Side vs ns f p g = (new-side (starts hmat ns) vs f (p .field), g)
-grows Handle vs ns f p g = join-handle vs (view ns) (p .place) (p .room) f g
+grows-good Processor vs ns f p g = inl (new-processor (starts pptt ns) vs f (p .refs), g)
+grows-good Resource vs ns f p g = inl (join-resource vs (view ns) (p .place) (p .room) (p .refs) f g)
+grows-good Cache vs ns f p g = inl (new-cache (starts pptt ns) vs f (p .field) (p .refs), g)
+grows-good Memory vs ns f p g = inl (new-memory (starts srat ns) vs f (p .field), g)
+grows-good Acpi vs ns f p g = inl (new-acpi (starts srat ns) vs f (p .field), g)
+grows-good Pci vs ns f p g = inl (new-pci (starts srat ns) vs (fit-length (body Pci) vs f) f (p .field), g)
+grows-good Rintc vs ns f p g = inl (new-rintc (starts srat ns) vs f (p .field), g)
+grows-good Domain vs ns f p g = inl (new-domain (starts hmat ns) vs f, g)
+grows-good Matrix vs ns f p g = inl (new-matrix (starts hmat ns) vs (fit-length (body Matrix) vs f) f (p .field), g)
+grows-good Initiator vs ns f p g = inl (grows-initiator vs ns f p g)
+grows-good Target vs ns f p g = inl (grows-target vs ns f p g)
+grows-good Cell vs ns f p g = inl (grows-cell vs ns f p g)
+grows-good Side vs ns f p g = inl (new-side (starts hmat ns) vs f (p .field), g)
+grows-good Handle vs ns f p g = inl (join-handle vs (view ns) (p .place) (p .room) f g)
+grows-good Bridge vs ns f p g = inl (new-bridge (starts cedt ns) vs f (p .field), g)
+grows-good Window vs ns f p g = inr (ways (at vs 2), 0, refl, refl, new-window vs f (p .field), g)
+grows-good WindowTarget vs ns f p g = inr (join-target vs (view ns) (p .place) (p .room) f (inl g))
+grows-good Xor vs ns f p g = inl (new-xor (starts cedt ns) vs f (p .field), g)
+grows-good Map vs ns f p g = inl (join-map vs (view ns) (p .place) (p .room) f g)
+
+-- a target may come behind a window that lacks one
+grows-window : (vs : List ℕ) (ns : List Node) → Fit (body WindowTarget) vs → Passed cedt ns WindowTarget vs → Grown cedt ns → Grown cedt (added WindowTarget vs ns)
+unfolding step
+grows-window vs ns f p g = inr (join-target vs (view ns) (p .place) (p .room) f g)
+
+pub grows : (k : Kind) (vs : List ℕ) (ns : List Node) → Fit (body k) vs → Passed (kindHome k) ns k vs → lacking (newest ns) (some k) ≡ 0 → Grown (kindHome k) ns → Grown (kindHome k) (added k vs ns)
+grows k vs ns f p e g = by (isKind WindowTarget (some k)) refl
+  where
+    by : (x : Bool) → isKind WindowTarget (some k) ≡ x → Grown (kindHome k) (added k vs ns)
+    by true q =
+        let i : k ≡ WindowTarget = kind-number k WindowTarget (eqb-true (kindNumber k) 66 q) in
+        rw i (grows-window vs ns (rw i at f) (rw i at p) (rw i at g))
+    by false q = grows-good k vs ns f p (whole-good (kindHome k) ns (some k) q e g)

@@ -10,7 +10,7 @@ use lib.Seq.{take-at, drop-at, drop-drop, take-all}
 use borrow.Author.Tests.{eq-eqb, le-leb, le-ltb}
 use Rattle.format.specs.Bytes.{at, le, value, part, sum, same, given}
 use Rattle.format.specs.Layout.{layWith, lay, fixedOk}
-use Rattle.format.specs.Table.{Table, pptt, srat, hmat, sign, revision, tail, told, front, limit, Head, headOf}
+use Rattle.format.specs.Table.{Table, pptt, srat, hmat, cedt, sign, revision, tail, told, front, limit, Head, headOf}
 use Rattle.format.specs.Node.{Node, sizes}
 use Rattle.format.specs.Recipe.{means}
 use Rattle.format.specs.Build.{records, header, checkOf, summed, tableFrom}
@@ -34,12 +34,14 @@ unfolding layWith le
 tail-length pptt n = refl
 tail-length srat n = refl
 tail-length hmat n = refl
+tail-length cedt n = refl
 
 tail-fixed : (t : Table) (n : ℕ) (rs : List ℕ) → fixedOk (tail t) (lay (tail t) (told t n) ++ rs) ≡ true
 unfolding layWith fixedOk le value
 tail-fixed pptt n rs = refl
 tail-fixed srat n rs = refl
 tail-fixed hmat n rs = refl
+tail-fixed cedt n rs = refl
 
 -- ---- what stands where
 
@@ -52,24 +54,28 @@ unfolding ten le
 length-ten pptt v len c = refl
 length-ten srat v len c = refl
 length-ten hmat v len c = refl
+length-ten cedt v len c = refl
 
 signed-ten : (t : Table) (v len c : ℕ) (rs : List ℕ) → signed (ten t v len c ++ rs) ≡ some t
 unfolding ten same
 signed-ten pptt v len c rs = refl
 signed-ten srat v len c rs = refl
 signed-ten hmat v len c rs = refl
+signed-ten cedt v len c rs = refl
 
 length-in-ten : (t : Table) (v len c : ℕ) (rs : List ℕ) → len < 256 ^ 4 → lengthIn (ten t v len c ++ rs) ≡ len
 unfolding ten le value part
 length-in-ten pptt v len c rs l = value-le 4 len l
 length-in-ten srat v len c rs l = value-le 4 len l
 length-in-ten hmat v len c rs l = value-le 4 len l
+length-in-ten cedt v len c rs l = value-le 4 len l
 
 revision-ten : (t : Table) (v len c : ℕ) (rs : List ℕ) → at (ten t v len c ++ rs) 8 ≡ v
 unfolding ten le
 revision-ten pptt v len c rs = refl
 revision-ten srat v len c rs = refl
 revision-ten hmat v len c rs = refl
+revision-ten cedt v len c rs = refl
 
 -- what stands behind the identity
 behind : Table → ℕ → List ℕ → List ℕ

@@ -11,7 +11,7 @@ use lib.Dec.{eqb, leb, ltb}
 use borrow.Author.Tests.{eqb-true, eqb-false, ne-eqb, ltb-true, ltb-false}
 use Rattle.format.specs.Bytes.{pick, both, all, find, Answer, refused, given, andThen, orRefused, unless, at, sum, same}
 use Rattle.format.specs.Layout.{fields, fixedOk, refsGood}
-use Rattle.format.specs.Table.{Table, pptt, srat, hmat, tables, sign, tail, front, limit}
+use Rattle.format.specs.Table.{Table, pptt, srat, hmat, cedt, tables, sign, tail, front, limit}
 use Rattle.format.specs.Form.{Form, layout, ranges}
 use Rattle.format.specs.Row.{Row, rowOf, formIn, known}
 use Rattle.format.specs.Node.{Entry, atPlace}
@@ -34,6 +34,7 @@ unfolding spelt same
 sign-back pptt = refl
 sign-back srat = refl
 sign-back hmat = refl
+sign-back cedt = refl
 
 module _ (b : List ℕ) where
   pub sign-one : (t u : Table) → Signed t b → Signed u b → t ≡ u
@@ -86,6 +87,7 @@ module _ (b : List ℕ) where
       by pptt m s = tests-same (take 4 b) (sign pptt) .wrong (m .0) s
       by srat m s = tests-same (take 4 b) (sign srat) .wrong (m .1 .0) s
       by hmat m s = tests-same (take 4 b) (sign hmat) .wrong (m .1 .1 .0) s
+      by cedt m s = tests-same (take 4 b) (sign cedt) .wrong (m .1 .1 .1 .0) s
 
   spelled-outcome : (t : Table) → Signed t b → (length b < 36 → ⊥) → HeaderOutcome (unless (headFault t b) 0 (given t))
   spelled-outcome t s l = by (headFault t b) refl (eqb (headFault t b) 0) refl

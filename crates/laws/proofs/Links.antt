@@ -9,8 +9,8 @@ use lib.Dec.{eqb}
 use borrow.Author.Tests.{eq-eqb, ne-eqb, eqb-true, le-leb}
 use Rattle.format.specs.Bytes.{pick}
 use Rattle.format.specs.Layout.{Item, fix, fld, two, to, orNone, arity, arities, number, isGood, refsGood}
-use Rattle.format.specs.Table.{Table, pptt, srat, hmat, front}
-use Rattle.format.specs.Form.{Form, processor, cache, memory, acpi, pci, rintc, domain, matrix, side, size}
+use Rattle.format.specs.Table.{Table, pptt, srat, hmat, cedt, front}
+use Rattle.format.specs.Form.{Form, processor, cache, memory, acpi, pci, rintc, domain, matrix, side, bridge, window, xor, size}
 use Rattle.format.specs.Node.{Node, Entry, sizes, starts, atPlace, isOrdinal, atOrdinal, placeOf, ordinalOf}
 use Rattle.laws.specs.Rename.{renamed, rename}
 use Rattle.laws.proofs.Lays.{both-true, rest-length, item-renamed}
@@ -156,6 +156,9 @@ size-pos rintc = omega arith
 size-pos domain = omega arith
 size-pos (matrix i t) = omega arith
 size-pos (side n) = omega arith
+size-pos (bridge n) = omega arith
+size-pos (window n) = omega arith
+size-pos (xor n) = omega arith
 
 -- no node is empty
 pub few-nodes : (ns : List Node) → length ns ≤ sizes ns
@@ -167,6 +170,7 @@ pub front-pos : (t : Table) → 0 < front t
 front-pos pptt = omega arith
 front-pos srat = omega arith
 front-pos hmat = omega arith
+front-pos cedt = omega arith
 
 pub starts-rise : (t : Table) (ns : List Node) → Rising (front t + sizes ns) (starts t ns)
 unfolding sizes starts

@@ -10,8 +10,8 @@ use lib.ListN.{length, getElem?, length-map}
 use lib.Dec.{eqb}
 use borrow.Author.Tests.{eqb-true}
 use Rattle.format.specs.Bytes.{pick, find, at, refused, given, andThen, orRefused}
-use Rattle.format.specs.Table.{Table, pptt, srat, hmat, revision}
-use Rattle.format.specs.Row.{Row, processors, caches, memories, initiators, rintcs, domains, matrices, sides, rows, home, rowType, column, matches, rowOf, knows, known}
+use Rattle.format.specs.Table.{Table, pptt, srat, hmat, cedt, revision}
+use Rattle.format.specs.Row.{Row, processors, caches, memories, initiators, rintcs, domains, matrices, sides, bridges, windows, xors, rows, home, rowType, column, matches, rowOf, knows, known}
 use Rattle.format.specs.Node.{Entry, atPlace}
 use Rattle.format.specs.Read.{headFault, judgeHead, typeIn, Frames, ended, badFrame, framedAt, recordFault, Seen, seenAs, entryOf, walk, walked, accept, Reading, fieldsOf, chosen, readingOf, read}
 use Rattle.laws.specs.Demand3.{More, limited, ifKnown, dimmed, Fits, Exact}
@@ -30,11 +30,15 @@ by-type rintcs = refl
 by-type domains = refl
 by-type matrices = refl
 by-type sides = refl
+by-type bridges = refl
+by-type windows = refl
+by-type xors = refl
 
 all-home : (t : Table) → All (λ r. home r ≡ t) (rows t)
 all-home pptt = (refl, (refl, tt))
 all-home srat = (refl, (refl, (refl, tt)))
 all-home hmat = (refl, (refl, (refl, tt)))
+all-home cedt = (refl, (refl, (refl, tt)))
 
 module _ (rev ty : ℕ) (bs : List ℕ) where
   type-test : (r : Row) → matches rev ty bs r ≡ true → eqb ty (rowType r) ≡ true

@@ -9,7 +9,7 @@ use lib.ListN.{length, replicate}
 use lib.Seq.{take-all}
 use Rattle.format.specs.Bytes.{all, Bytes}
 use Rattle.format.specs.Layout.{Item, fld, to, wide, width, asIs, layWith, fields, fixedOk}
-use Rattle.format.specs.Form.{Form, processor, cache, memory, acpi, pci, rintc, domain, matrix, side, size, layout, ranges}
+use Rattle.format.specs.Form.{Form, processor, cache, memory, acpi, pci, rintc, domain, matrix, side, bridge, window, xor, size, layout, ranges}
 use Rattle.format.specs.Node.{Node, node, bytes, nodeAt}
 use Rattle.format.specs.Read.{sound}
 use Rattle.laws.proofs.Lays.{Fit, both-true, length-lay, fields-lay, lay-fields}
@@ -35,6 +35,9 @@ width-layout rintc = refl
 width-layout domain = refl
 width-layout (matrix i t) = rw (width-append (replicate (i + t) (fld 4)) (replicate (i * t) (fld 2)), width-replicate (i + t) (fld 4), width-replicate (i * t) (fld 2)) (omega arith)
 width-layout (side n) = rw (width-replicate n (fld 2)) (omega arith)
+width-layout (bridge n) = refl
+width-layout (window n) = rw (width-replicate n (fld 4)) (omega arith)
+width-layout (xor n) = rw (width-replicate n (fld 8)) (omega arith)
 
 pub length-record : (g : ℕ → ℕ) (f : Form) (vs : List ℕ) → length (layWith g (layout f) vs) ≡ size f
 length-record g f vs = length-lay g (layout f) vs ∙ width-layout f

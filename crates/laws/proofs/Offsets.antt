@@ -1,16 +1,16 @@
--- A layout read by places is the layout read from there on, by induction over the items.
-use mathlib.Core.Path.{_≡_, refl}
+-- A layout read by places is the layout read from there on, by induction over the items; and what is known of a node by its first fields.
+use mathlib.Core.Path.{_≡_, refl, sym, ap}
 use Prim.Native.Nat.{ℕ, zero, suc, _+_}
 use mathlib.Core.List.{List, [], _∷_, _++_}
 use mathlib.Core.Bool.{true}
 use native.Mathlib.Nat.{add-assoc, add-zero}
-use lib.ListN.{drop, replicate}
+use lib.ListN.{take, drop, replicate}
 use lib.Seq.{drop-drop}
 use Rattle.format.specs.Bytes.{both, value, part}
-use Rattle.format.specs.Layout.{Item, wide, isFixed, width, fieldsWith, fixedOk}
+use Rattle.format.specs.Layout.{Item, wide, asIs, isFixed, width, fieldsWith, fixedOk}
 use Rattle.format.specs.Form.{Form, layout}
-use Rattle.format.specs.Node.{node, nodeAt}
-use Rattle.laws.specs.Offsets.{fieldsAt, fixedAt}
+use Rattle.format.specs.Node.{Node, node, nodeAt}
+use Rattle.laws.specs.Offsets.{fieldsAt, fixedAt, trimmed}
 use Rattle.laws.proofs.Tests.{both-assoc}
 
 pub fields-at : (g : ℕ → ℕ) (is : List Item) (bs : List ℕ) (p : ℕ) → fieldsWith g is (drop p bs) ≡ fieldsAt g is bs p
@@ -37,3 +37,16 @@ fixed-append (i ∷ is) js bs p = rw (fixed-append is js bs (p + wide i), both-a
 pub node-at : (g : ℕ → ℕ) (f : Form) (bs : List ℕ) → nodeAt g f bs ≡ node f (fieldsAt g (layout f) bs 0)
 unfolding nodeAt
 node-at g f bs = rw (fields-at g (layout f) bs 0)
+
+-- ---- a node that is known by its first fields
+
+pub form-of : (x y : Node) (n : ℕ) → x ≡ trimmed n y → y .form ≡ x .form
+form-of x y n e = sym (ap (λ (z : Node). z .form) e)
+
+pub first-of : (x y : Node) (n : ℕ) → x ≡ trimmed n y → take n (y .values) ≡ x .values
+first-of x y n e = sym (ap (λ (z : Node). z .values) e)
+
+-- in a record
+pub form-known : {x : Node} (n : ℕ) (f : Form) (bs : List ℕ) → x ≡ trimmed n (nodeAt asIs f bs) → x .form ≡ f
+unfolding nodeAt
+form-known n f bs e = ap (λ (z : Node). z .form) e

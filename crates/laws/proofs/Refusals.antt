@@ -12,21 +12,29 @@ use lib.Dec.{eqb, ltb}
 use borrow.Author.Tests.{eqb-true, eqb-false, ne-eqb, le-ltb, lt-ltb, ltb-true, ltb-false}
 use Rattle.format.specs.Bytes.{pick, firstOf, Answer, refused, given, andThen, orRefused, unless, at, part}
 use Rattle.format.specs.Layout.{width}
-use Rattle.format.specs.Table.{Table, pptt, srat, hmat, tables, code, Head, headOf}
+use Rattle.format.specs.Table.{Table, pptt, srat, hmat, cedt, tables, code, Head, headOf}
 use Rattle.format.specs.Node.{Node}
 use Rattle.format.specs.Kind.{Kind, kindOf, body}
-use Rattle.format.specs.Recipe.{Calls, done, badKind, cutOff, called, cutAs, skip, cut, newest, added, fault, Meaning, means, since, run, tableOf, headed, meaning}
+use Rattle.format.specs.Recipe.{Calls, done, badKind, cutOff, called, cutAs, skip, cut, newest, added, fault, lacking, Meaning, means, run, tableOf, headed, meaning}
 use Rattle.format.specs.Build.{lengthOf, fitting, build}
 use Rattle.laws.specs.Words.{FirstOf, NoneOf}
-use Rattle.laws.specs.Demand1.{Belongs, headFaults, recordFaults, fieldsAt, endOf, Where, faults, Headed, OfKind, Reaches, start, next, Comes, Says, AtHead, BadKind, AtRecord, NoRoom, Earned, Exactly, One}
+use Rattle.laws.specs.Demand1.{Belongs, joins, maker, Lacks, Ready, headFaults, recordFaults, fieldsAt, endOf, Where, faults, Headed, OfKind, Reaches, start, next, Comes, Says, AtHead, BadKind, AtRecord, Incomplete, NoRoom, Earned, Exactly, One}
 use Rattle.laws.proofs.Finds.{found-test}
 use Rattle.laws.proofs.Calls.{cut-skip}
 use Rattle.laws.proofs.Settings.{table-back}
 use Rattle.laws.proofs.Grows.{passed}
 use Rattle.laws.proofs.Words.{found-none, first-one, first-none, Numbers, first-in}
-use Rattle.laws.proofs.Faults.{kind-then, kind-none, kind-is, Follows, follows-next, faultless, faulty, fault-where, fault-place}
+use Rattle.laws.proofs.Faults.{kind-then, kind-none, kind-is, Follows, follows-next, since-maker, decided, faultless, faulty, fault-where, fault-place}
 
 -- ---- cutting at a place
+
+-- a byte of no kind of the table
+bad-none : (t : Table) (b : ℕ) → (Belongs t b → ⊥) → kindOf t b ≡ none
+bad-none t b h = by (kindOf t b) refl
+  where
+    by : (o : Option Kind) → kindOf t b ≡ o → o ≡ none
+    by none e = refl
+    by (some k) e = absurd (h (kind-then t b k e .0))
 
 module _ (t : Table) (r : List ℕ) (p : ℕ) where
   -- what is cut from p on
@@ -43,11 +51,7 @@ module _ (t : Table) (r : List ℕ) (p : ℕ) where
 
   rest-bad : p < length r → (Belongs t (at r p) → ⊥) → rest ≡ badKind p
   unfolding cutAs
-  rest-bad l h = by (kindOf t (at r p)) refl
-    where
-      by : (o : Option Kind) → kindOf t (at r p) ≡ o → rest ≡ badKind p
-      by none e = rest-here none e l
-      by (some k) e = absurd (h (kind-then t (at r p) k e .0))
+  rest-bad l h = rest-here none (bad-none t (at r p) h) l
 
   module _ (k : Kind) (o : OfKind t (at r p) k) where
     rest-cut : p < length r → length r < endOf p k → rest ≡ cutOff p k
@@ -70,24 +74,36 @@ is-here t r p h = by (ltb p (length r)) refl
     zero-none pptt b z h = omega arith
     zero-none srat b z h = omega arith
     zero-none hmat b z h = omega arith
+    zero-none cedt b z h = omega arith
 
     by : (x : Bool) → ltb p (length r) ≡ x → p < length r
     by true e = ltb-true p (length r) e
     by false e = absurd (zero-none t (at r p) (List·getD-eq-default r 0 (ltb-false p (length r) e)) h)
 
+-- past the end stands no kind
+past-none : (t : Table) (r : List ℕ) (p : ℕ) → length r ≤ p → kindOf t (at r p) ≡ none
+unfolding kindOf
+past-none t r p l = rw (List·getD-eq-default r 0 l) (by t)
+  where
+    by : (t : Table) → kindOf t 0 ≡ none
+    by pptt = refl
+    by srat = refl
+    by hmat = refl
+    by cedt = refl
+
 -- ---- the records before a place
 
 module _ (t : Table) (r : List ℕ) (hd : Headed t r) where
-  reach-follows : {q p : ℕ} {ns : List Node} → Reaches t r q ns p → Follows (newest ns) (at r q)
+  reach-follows : {q w p : ℕ} {ns : List Node} → Reaches t r q w ns p → Follows (newest ns) (at r q)
   reach-follows start = rw (hd .0) (omega arith)
-  reach-follows (next {q} {p} {ns} x k o n) =
+  reach-follows (next {q} {w} {p} {ns} x y k o n) =
       let vs = fieldsAt r p k in
       let z = faultless t (at r q) ns k vs (reach-follows x) .1 (n .1) in
       rw (o .1) (follows-next k vs ns (passed t ns k vs z .place))
 
-  reach-within : {q p : ℕ} {ns : List Node} → Reaches t r q ns p → p ≤ length r
+  reach-within : {q w p : ℕ} {ns : List Node} → Reaches t r q w ns p → p ≤ length r
   reach-within start = hd .1
-  reach-within (next {q} {p} x k o n) = by (ltb (length r) (endOf p k)) refl
+  reach-within (next {q} {w} {p} x y k o n) = by (ltb (length r) (endOf p k)) refl
     where
       by : (y : Bool) → ltb (length r) (endOf p k) ≡ y → endOf p k ≤ length r
       by true e = absurd (n .0 (ltb-true (length r) (endOf p k) e))
@@ -95,19 +111,48 @@ module _ (t : Table) (r : List ℕ) (hd : Headed t r) where
 
 -- what a recipe is refused for behind its head
 abbrev Faulted : List ℕ → ℕ → ℕ → Type 0
-Faulted r n p = ((n ≡ 2) × BadKind r p) ⊎ AtRecord n r p
+Faulted r n p = ((n ≡ 2) × BadKind r p) ⊎ (AtRecord n r p ⊎ ((n ≡ 11) × Incomplete r p))
 
 -- what comes of a recipe with the head h
 abbrev Outcome : Head → List ℕ → Answer Meaning → Type 0
 Outcome h r (refused n p) = Faulted r n p
-Outcome h r (given m) = (h ≡ m .head) × ((q : ℕ) × Reaches (h .table) r q (m .nodes) (length r))
+Outcome h r (given m) = (h ≡ m .head) × ((q : ℕ) × (w : ℕ) × Reaches (h .table) r q w (m .nodes) (length r)) × (Lacks (newest (m .nodes)) → ⊥)
 
 module _ (h : Head) (r : List ℕ) (hd : Headed (h .table) r) where
-  -- one record more
-  module _ (y q p : ℕ) (ns : List Node) (x : Reaches (h .table) r q ns p) where
-    run-bad : p < length r → (Belongs (h .table) (at r p) → ⊥) → run h y ns (rest (h .table) r p) ≡ refused 2 p
+  -- ---- one record more
+
+  -- what stands at p, if anything, comes too early
+  run-early : (w : ℕ) (ns : List Node) (p : ℕ) → lacking (newest ns) (kindOf (h .table) (at r p)) ≡ 11 → run h w ns (rest (h .table) r p) ≡ refused 11 w
+  unfolding run cutAs
+  run-early w ns p e = by (ltb p (length r)) refl (kindOf (h .table) (at r p)) refl
+    where
+      cut-or-called : (k : Kind) (cs : Calls) (x : Bool) → lacking (newest ns) (some k) ≡ 11 → run h w ns (pick x (cutOff p k) (called p k (fieldsAt r p k) cs)) ≡ refused 11 w
+      cut-or-called k cs true e = rw e
+      cut-or-called k cs false e = rw e
+
+      by : (x : Bool) → ltb p (length r) ≡ x → (o : Option Kind) → kindOf (h .table) (at r p) ≡ o → run h w ns (rest (h .table) r p) ≡ refused 11 w
+      by false q o i =
+          let l = ltb-false p (length r) q in
+          let z : lacking (newest ns) none ≡ 11 = rw (past-none (h .table) r p l) at e in
+          rw (rest-end (h .table) r p l, z)
+      by true q none i =
+          let z : lacking (newest ns) none ≡ 11 = rw i at e in
+          rw (rest-here (h .table) r p none i (ltb-true p (length r) q), z)
+      by true q (some k) i =
+          let z : lacking (newest ns) (some k) ≡ 11 = rw i at e in
+          rw (rest-here (h .table) r p (some k) i (ltb-true p (length r) q)) (cut-or-called k (cut (h .table) 0 (endOf p k) (drop (endOf p k) r)) (ltb (length (drop (suc p) r)) (width (body k))) z)
+
+  -- what stands at p may come there
+  ready-none : (ns : List Node) (p : ℕ) → Ready (h .table) r ns p → lacking (newest ns) (kindOf (h .table) (at r p)) ≡ 0
+  ready-none ns p y = ⊎-elim (λ d. d .0) (λ d. absurd (d .1 y)) (decided ns (h .table) (at r p))
+
+  not-ready : (ns : List Node) (p : ℕ) → (Ready (h .table) r ns p → ⊥) → lacking (newest ns) (kindOf (h .table) (at r p)) ≡ 11
+  not-ready ns p n = ⊎-elim (λ d. absurd (n (d .1))) (λ d. d .0) (decided ns (h .table) (at r p))
+
+  module _ (q w p : ℕ) (ns : List Node) (x : Reaches (h .table) r q w ns p) (y : Ready (h .table) r ns p) where
+    run-bad : p < length r → (Belongs (h .table) (at r p) → ⊥) → run h w ns (rest (h .table) r p) ≡ refused 2 p
     unfolding run
-    run-bad l b = rw (rest-bad (h .table) r p l b)
+    run-bad l b = rw (rest-bad (h .table) r p l b, rw (bad-none (h .table) (at r p) b) at (ready-none ns p y))
 
     module _ (k : Kind) (o : OfKind (h .table) (at r p) k) where
       l : p < length r
@@ -116,28 +161,34 @@ module _ (h : Head) (r : List ℕ) (hd : Headed (h .table) r) where
       f : Follows (newest ns) (at r q)
       f = reach-follows (h .table) r hd x
 
-      run-good : NoneOf (faults (h .table) r q ns p k)
-          → run h y ns (rest (h .table) r p) ≡ run h (since ns (added k (fieldsAt r p k) ns) p y) (added k (fieldsAt r p k) ns) (rest (h .table) r (endOf p k))
-      unfolding run rest
-      run-good n = ap (run h y ns) (rest-whole (h .table) r p k o l (n .0)) ∙ rw (faultless (h .table) (at r q) ns k (fieldsAt r p k) f .1 (n .1))
+      free : lacking (newest ns) (some k) ≡ 0
+      free = rw (kind-is (h .table) (at r p) k o) at (ready-none ns p y)
 
-      run-cut : length r < endOf p k → run h y ns (rest (h .table) r p) ≡ refused 3 p
+      run-good : NoneOf (faults (h .table) r q ns p k)
+          → run h w ns (rest (h .table) r p) ≡ run h (maker (joins k) p w) (added k (fieldsAt r p k) ns) (rest (h .table) r (endOf p k))
+      unfolding run rest
+      run-good n =
+          let z = faultless (h .table) (at r q) ns k (fieldsAt r p k) f .1 (n .1) in
+          let m = since-maker k (fieldsAt r p k) ns p w (passed (h .table) ns k (fieldsAt r p k) z .place) in
+          ap (run h w ns) (rest-whole (h .table) r p k o l (n .0)) ∙ rw (free, z, m)
+
+      run-cut : length r < endOf p k → run h w ns (rest (h .table) r p) ≡ refused 3 p
       unfolding run
-      run-cut c = rw (rest-cut (h .table) r p k o l c)
+      run-cut c = rw (rest-cut (h .table) r p k o l c, free)
 
       run-whole : (m place : ℕ) → (length r < endOf p k → ⊥) → FirstOf m (recordFaults (h .table) (at r q) ns k (fieldsAt r p k)) → Where m ns k (fieldsAt r p k) p place
-          → run h y ns (rest (h .table) r p) ≡ refused m place
+          → run h w ns (rest (h .table) r p) ≡ refused m place
       unfolding run rest
-      run-whole m place w d u =
+      run-whole m place c d u =
           let z : 0 < m = first-in (λ n. 0 < n) (recordFaults (h .table) (at r q) ns k (fieldsAt r p k)) m d (omega arith) in
           let e : fault (h .table) ns k (fieldsAt r p k) ≡ m = faulty (h .table) (at r q) ns k (fieldsAt r p k) f m z .1 d in
-          ap (run h y ns) (rest-whole (h .table) r p k o l w) ∙ rw (e, ne-eqb m 0 (λ i. omega arith), fault-place (h .table) (at r q) ns k (fieldsAt r p k) f m p place d u)
+          ap (run h w ns) (rest-whole (h .table) r p k o l c) ∙ rw (free, e, ne-eqb m 0 (λ i. omega arith), fault-place (h .table) (at r q) ns k (fieldsAt r p k) f m p place d u)
 
-      run-faulty : (m place : ℕ) → FirstOf m (faults (h .table) r q ns p k) → Where m ns k (fieldsAt r p k) p place → run h y ns (rest (h .table) r p) ≡ refused m place
+      run-faulty : (m place : ℕ) → FirstOf m (faults (h .table) r q ns p k) → Where m ns k (fieldsAt r p k) p place → run h w ns (rest (h .table) r p) ≡ refused m place
       run-faulty m place d u = by (eqb m 3) refl d
         where
           by : (c : Bool) → eqb m 3 ≡ c → pick c (length r < endOf p k) ((length r < endOf p k → ⊥) × FirstOf m (recordFaults (h .table) (at r q) ns k (fieldsAt r p k)))
-              → run h y ns (rest (h .table) r p) ≡ refused m place
+              → run h w ns (rest (h .table) r p) ≡ refused m place
           by true e d =
               let i = eqb-true m 3 e in
               let z : place ≡ p = rw i at u in
@@ -145,75 +196,84 @@ module _ (h : Head) (r : List ℕ) (hd : Headed (h .table) r) where
           by false e d = run-whole m place (d .0) (d .1) u
 
   -- good records are passed
-  reach-run : {q p : ℕ} {ns : List Node} → Reaches (h .table) r q ns p → (y : ℕ) × (run h 0 [] (rest (h .table) r 28) ≡ run h y ns (rest (h .table) r p))
-  reach-run start = (0, refl)
-  reach-run (next {q} {p} {ns} x k o n) =
-      let (y, e) = reach-run x in
-      (since ns (added k (fieldsAt r p k) ns) p y, e ∙ run-good y q p ns x k o n)
+  reach-run : {q w p : ℕ} {ns : List Node} → Reaches (h .table) r q w ns p → run h 0 [] (rest (h .table) r 28) ≡ run h w ns (rest (h .table) r p)
+  reach-run start = refl
+  reach-run (next {q} {w} {p} {ns} x y k o n) = reach-run x ∙ run-good q w p ns x y k o n
 
   -- ---- what comes of the records from p on
 
-  module _ (y q p : ℕ) (ns : List Node) (x : Reaches (h .table) r q ns p) where
-    at-end : length r ≤ p → Outcome h r (run h y ns (rest (h .table) r p))
-    unfolding run
-    at-end l =
-        let e : p ≡ length r = omega (arith, reach-within (h .table) r hd x) in
-        rw (rest-end (h .table) r p l) (refl, (q, rw e at x))
+  module _ (q w p : ℕ) (ns : List Node) (x : Reaches (h .table) r q w ns p) where
+    at-early : (Ready (h .table) r ns p → ⊥) → Outcome h r (run h w ns (rest (h .table) r p))
+    at-early n = rw (run-early w ns p (not-ready ns p n)) (inr (inr (refl, (h .table, q, ns, p, hd, x, n))))
 
-    module _ (l : p < length r) where
-      here : Comes (h .table) r q ns p
-      here = record { head = hd; reached = x; here = l }
+    module _ (y : Ready (h .table) r ns p) where
+      at-end : length r ≤ p → Outcome h r (run h w ns (rest (h .table) r p))
+      unfolding run
+      at-end l =
+          let e : p ≡ length r = omega (arith, reach-within (h .table) r hd x) in
+          let n = past-none (h .table) r p l in
+          let free : lacking (newest ns) none ≡ 0 = rw n at (ready-none ns p y) in
+          rw (rest-end (h .table) r p l, free) (refl, (q, w, rw e at x), λ i. kind-none (h .table) (at r p) n (y i .0))
 
-      at-record : (k : Kind) → OfKind (h .table) (at r p) k → (n place : ℕ) → FirstOf n (faults (h .table) r q ns p k) → Where n ns k (fieldsAt r p k) p place
-          → Outcome h r (run h y ns (rest (h .table) r p))
-      at-record k o n place d u = rw (run-faulty y q p ns x k o n place d u) (inr (h .table, q, ns, p, k, here, o, d, u))
+      module _ (l : p < length r) where
+        here : Comes (h .table) r q w ns p
+        here = record { head = hd; reached = x; here = l; ready = y }
 
-      -- a whole record has a first fault, or none
-      at-whole : (k : Kind) → OfKind (h .table) (at r p) k → (length r < endOf p k → ⊥)
-          → (NoneOf (faults (h .table) r q ns p k) → Outcome h r (run h y ns (rest (h .table) r p))) → Outcome h r (run h y ns (rest (h .table) r p))
-      at-whole k o w good = by (eqb n 0) refl
-        where
-          n : ℕ
-          n = fault (h .table) ns k (fieldsAt r p k)
+        at-record : (k : Kind) → OfKind (h .table) (at r p) k → (n place : ℕ) → FirstOf n (faults (h .table) r q ns p k) → Where n ns k (fieldsAt r p k) p place
+            → Outcome h r (run h w ns (rest (h .table) r p))
+        at-record k o n place d u = rw (run-faulty q w p ns x y k o n place d u) (inr (inl (h .table, q, w, ns, p, k, here, o, d, u)))
 
-          f : Follows (newest ns) (at r q)
-          f = reach-follows (h .table) r hd x
+        -- a whole record has a first fault, or none
+        at-whole : (k : Kind) → OfKind (h .table) (at r p) k → (length r < endOf p k → ⊥)
+            → (NoneOf (faults (h .table) r q ns p k) → Outcome h r (run h w ns (rest (h .table) r p))) → Outcome h r (run h w ns (rest (h .table) r p))
+        at-whole k o c good = by (eqb n 0) refl
+          where
+            n : ℕ
+            n = fault (h .table) ns k (fieldsAt r p k)
 
-          by : (c : Bool) → eqb n 0 ≡ c → Outcome h r (run h y ns (rest (h .table) r p))
-          by true e = good (w, faultless (h .table) (at r q) ns k (fieldsAt r p k) f .0 (eqb-true n 0 e))
-          by false e =
-              let z : 0 < n = omega (arith, eqb-false n 0 e) in
-              let d = faulty (h .table) (at r q) ns k (fieldsAt r p k) f n z .0 refl in
-              let m : 3 < n = first-in (λ n. 3 < n) (recordFaults (h .table) (at r q) ns k (fieldsAt r p k)) n d (omega arith) in
-              at-record k o n _ (rw (ne-eqb n 3 (λ i. omega arith)) (w, d)) (fault-where (h .table) (at r q) ns k (fieldsAt r p k) f n p d)
+            f : Follows (newest ns) (at r q)
+            f = reach-follows (h .table) r hd x
 
-      at-kind : (k : Kind) → OfKind (h .table) (at r p) k
-          → (NoneOf (faults (h .table) r q ns p k) → Outcome h r (run h y ns (rest (h .table) r p))) → Outcome h r (run h y ns (rest (h .table) r p))
-      at-kind k o good = by (ltb (length r) (endOf p k)) refl
-        where
-          by : (c : Bool) → ltb (length r) (endOf p k) ≡ c → Outcome h r (run h y ns (rest (h .table) r p))
-          by true e = at-record k o 3 p (ltb-true (length r) (endOf p k) e) refl
-          by false e = at-whole k o (λ i. omega (arith, ltb-false (length r) (endOf p k) e)) good
+            by : (b : Bool) → eqb n 0 ≡ b → Outcome h r (run h w ns (rest (h .table) r p))
+            by true e = good (c, faultless (h .table) (at r q) ns k (fieldsAt r p k) f .0 (eqb-true n 0 e))
+            by false e =
+                let z : 0 < n = omega (arith, eqb-false n 0 e) in
+                let d = faulty (h .table) (at r q) ns k (fieldsAt r p k) f n z .0 refl in
+                let m : 3 < n = first-in (λ n. 3 < n) (recordFaults (h .table) (at r q) ns k (fieldsAt r p k)) n d (omega arith) in
+                at-record k o n _ (rw (ne-eqb n 3 (λ i. omega arith)) (c, d)) (fault-where (h .table) (at r q) ns k (fieldsAt r p k) f n p d)
+
+        at-kind : (k : Kind) → OfKind (h .table) (at r p) k
+            → (NoneOf (faults (h .table) r q ns p k) → Outcome h r (run h w ns (rest (h .table) r p))) → Outcome h r (run h w ns (rest (h .table) r p))
+        at-kind k o good = by (ltb (length r) (endOf p k)) refl
+          where
+            by : (c : Bool) → ltb (length r) (endOf p k) ≡ c → Outcome h r (run h w ns (rest (h .table) r p))
+            by true e = at-record k o 3 p (ltb-true (length r) (endOf p k) e) refl
+            by false e = at-whole k o (λ i. omega (arith, ltb-false (length r) (endOf p k) e)) good
+
+  -- it may come there, or not
+  is-ready : (ns : List Node) (p : ℕ) → Ready (h .table) r ns p ⊎ (Ready (h .table) r ns p → ⊥)
+  is-ready ns p = ⊎-elim (λ d. inl (d .1)) (λ d. inr (d .1)) (decided ns (h .table) (at r p))
+
+  abbrev From : ℕ → Type 0
+  From j = (q w p : ℕ) (ns : List Node) → length r ≤ p + j → Reaches (h .table) r q w ns p → Outcome h r (run h w ns (rest (h .table) r p))
 
   -- j: as many bytes may be left
-  outcome : (j y q p : ℕ) (ns : List Node) → length r ≤ p + j → Reaches (h .table) r q ns p → Outcome h r (run h y ns (rest (h .table) r p))
-  outcome zero y q p ns l x = at-end y q p ns x (omega arith)
-  outcome (suc j) y q p ns l x = by (ltb p (length r)) refl (outcome j)
+  outcome : (j : ℕ) → From j
+  outcome zero q w p ns l x = ⊎-elim (λ y. at-end q w p ns x y (omega arith)) (at-early q w p ns x) (is-ready ns p)
+  outcome (suc j) q w p ns l x = ⊎-elim (λ y. by y (ltb p (length r)) refl (outcome j)) (at-early q w p ns x) (is-ready ns p)
     where
-      kind : p < length r → ((y q p : ℕ) (ns : List Node) → length r ≤ p + j → Reaches (h .table) r q ns p → Outcome h r (run h y ns (rest (h .table) r p)))
-          → (o : Option Kind) → kindOf (h .table) (at r p) ≡ o → Outcome h r (run h y ns (rest (h .table) r p))
-      kind i ih none e =
+      kind : Ready (h .table) r ns p → p < length r → From j → (o : Option Kind) → kindOf (h .table) (at r p) ≡ o → Outcome h r (run h w ns (rest (h .table) r p))
+      kind y i ih none e =
           let b = kind-none (h .table) (at r p) e in
-          rw (run-bad y q p ns x i b) (inl (refl, (h .table, q, ns, here y q p ns x i, b)))
-      kind i ih (some k) e =
+          rw (run-bad q w p ns x y i b) (inl (refl, (h .table, q, w, ns, here q w p ns x y i, b)))
+      kind y i ih (some k) e =
           let o = kind-then (h .table) (at r p) k e in
-          at-kind y q p ns x i k o λ n.
-          rw (run-good y q p ns x k o n) (ih (since ns (added k (fieldsAt r p k) ns) p y) p (endOf p k) (added k (fieldsAt r p k) ns) (omega arith) (next x k o n))
+          at-kind q w p ns x y i k o λ n.
+          rw (run-good q w p ns x y k o n) (ih p (maker (joins k) p w) (endOf p k) (added k (fieldsAt r p k) ns) (omega arith) (next x y k o n))
 
-      by : (c : Bool) → ltb p (length r) ≡ c → ((y q p : ℕ) (ns : List Node) → length r ≤ p + j → Reaches (h .table) r q ns p → Outcome h r (run h y ns (rest (h .table) r p)))
-          → Outcome h r (run h y ns (rest (h .table) r p))
-      by true e ih = kind (ltb-true p (length r) e) ih (kindOf (h .table) (at r p)) refl
-      by false e ih = at-end y q p ns x (ltb-false p (length r) e)
+      by : Ready (h .table) r ns p → (c : Bool) → ltb p (length r) ≡ c → From j → Outcome h r (run h w ns (rest (h .table) r p))
+      by y true e ih = kind y (ltb-true p (length r) e) ih (kindOf (h .table) (at r p)) refl
+      by y false e ih = at-end q w p ns x y (ltb-false p (length r) e)
 
 -- ---- the head
 
@@ -222,10 +282,10 @@ module _ (r : List ℕ) where
   HeadOutcome (refused n p) = AtHead n r p
   HeadOutcome (given h) = Headed (h .table) r × (h ≡ headOf (h .table) (part r 2 26))
 
-  no-table : tableOf (at r 1) ≡ none → 2 < at r 1
+  no-table : tableOf (at r 1) ≡ none → 3 < at r 1
   no-table e =
       let m = found-none (λ t. eqb (at r 1) (code t)) tables e in
-      omega (arith, eqb-false (at r 1) 0 (m .0), eqb-false (at r 1) 1 (m .1 .0), eqb-false (at r 1) 2 (m .1 .1 .0))
+      omega (arith, eqb-false (at r 1) 0 (m .0), eqb-false (at r 1) 1 (m .1 .0), eqb-false (at r 1) 2 (m .1 .1 .0), eqb-false (at r 1) 3 (m .1 .1 .1 .0))
 
   head-outcome : HeadOutcome (headed r)
   unfolding headed
@@ -239,10 +299,11 @@ module _ (r : List ℕ) where
       by true e false d (some t) f =
           ((eqb-true (at r 0) 1 e, ltb-false (length r) 28 d, eqb-true (at r 1) (code t) (found-test (λ t. eqb (at r 1) (code t)) tables t f)), refl)
 
-  code-low : (t : Table) → code t ≤ 2
+  code-low : (t : Table) → code t ≤ 3
   code-low pptt = omega arith
   code-low srat = omega arith
   code-low hmat = omega arith
+  code-low cedt = omega arith
 
   head-fine : (t : Table) → Headed t r → NoneOf (headFaults r)
   head-fine t (a, l, c) = (λ z. z a, (λ z. omega arith, (λ z. omega (arith, code-low t), tt)))
@@ -277,7 +338,7 @@ module _ (r : List ℕ) where
 
   run-judged : (h : Head) → Headed (h .table) r → h ≡ headOf (h .table) (part r 2 26) → (a : Answer Meaning) → Outcome h r a → Judged a
   run-judged h hd i (refused n p) o = inr o
-  run-judged h hd i (given m) (e, (q, x)) = record { head = rw e at hd; identity = rw e at i; last = q; reached = rw e at x }
+  run-judged h hd i (given m) (e, (q, w, x), n) = record { head = rw e at hd; identity = rw e at i; last = q; made = w; reached = rw e at x; whole = n }
 
   judged : Judged (meaning r)
   unfolding meaning rest
@@ -294,22 +355,25 @@ module _ (r : List ℕ) where
   refuses : (n p : ℕ) → Refused n p → meaning r ≡ refused n p
   unfolding meaning
   refuses n p (inl a) = rw (headed-not r n p a)
-  refuses n p (inr (inl (z, (t, q, ns, c, b)))) =
+  refuses n p (inr (inl (z, (t, q, w, ns, c, b)))) =
       let h = headOf t (part r 2 26) in
-      let (y, e) = reach-run h r (c .head) (c .reached) in
-      meaning-run t (c .head) ∙ (e ∙ (run-bad h r (c .head) y q p ns (c .reached) (c .here) b ∙ rw z))
-  refuses n place (inr (inr (t, q, ns, p, k, c, o, d, u))) =
+      meaning-run t (c .head) ∙ (reach-run h r (c .head) (c .reached) ∙ (run-bad h r (c .head) q w p ns (c .reached) (c .ready) (c .here) b ∙ rw z))
+  refuses n place (inr (inr (inl (t, q, w, ns, p, k, c, o, d, u)))) =
       let h = headOf t (part r 2 26) in
-      let (y, e) = reach-run h r (c .head) (c .reached) in
-      meaning-run t (c .head) ∙ (e ∙ run-faulty h r (c .head) y q p ns (c .reached) k o n place d u)
+      meaning-run t (c .head) ∙ (reach-run h r (c .head) (c .reached) ∙ run-faulty h r (c .head) q w p ns (c .reached) (c .ready) k o n place d u)
+  refuses n place (inr (inr (inr (z, (t, q, ns, p, hd, x, early))))) =
+      let h = headOf t (part r 2 26) in
+      meaning-run t hd ∙ (reach-run h r hd x ∙ (run-early h r hd place ns p (not-ready h r hd ns p early) ∙ rw z))
 
   gives : (m : Meaning) → Says r m → meaning r ≡ given m
   unfolding run
   gives m s =
-      let h = headOf (m .head .table) (part r 2 26) in
-      let (y, e) = reach-run h r (s .head) (s .reached) in
+      let t = m .head .table in
+      let h = headOf t (part r 2 26) in
       let d : means h (m .nodes) ≡ m = rw (← s .identity) in
-      meaning-run (m .head .table) (s .head) ∙ (e ∙ (rw (rest-end (m .head .table) r (length r) (omega arith)) (ap given d)))
+      let l : length r ≤ length r = omega arith in
+      let free : lacking (newest (m .nodes)) none ≡ 0 = rw (past-none t r (length r) l) at (ready-none h r (s .head) (m .nodes) (length r) (λ i. absurd (s .whole i))) in
+      meaning-run t (s .head) ∙ (reach-run h r (s .head) (s .reached) ∙ (rw (rest-end t r (length r) l, free) (ap given d)))
 
   -- what a recipe means, in words
   pub meaning-given : (m : Meaning) → (meaning r ≡ given m) ↔ Says r m
@@ -323,21 +387,23 @@ module _ (r : List ℕ) (room : ℕ) where
   earned = by (meaning r) (judged r)
     where
       fits : (m : Meaning) → Says r m → (x : Bool) → ltb room (lengthOf m) ≡ x → Earned r room (pick x (refused 9 (lengthOf m)) (given (lengthOf m)))
-      fits m s true e = inr (inr (inr (refl, (m, s, ltb-true room (lengthOf m) e, refl))))
+      fits m s true e = inr (inr (inr (inr (refl, (m, s, ltb-true room (lengthOf m) e, refl)))))
       fits m s false e = (m, s, ltb-false room (lengthOf m) e, refl)
 
       by : (a : Answer Meaning) → Judged r a → Earned r room (andThen a (λ m. fitting 9 room (lengthOf m)))
       by (refused n p) (inl a) = inl a
       by (refused n p) (inr (inl b)) = inr (inl b)
-      by (refused n p) (inr (inr c)) = inr (inr (inl c))
+      by (refused n p) (inr (inr (inl c))) = inr (inr (inl c))
+      by (refused n p) (inr (inr (inr c))) = inr (inr (inr (inl c)))
       by (given m) s = fits m s (ltb room (lengthOf m)) refl
 
   only : (a : Answer ℕ) → Earned r room a → build r room ≡ a
   unfolding build
   only (refused n p) (inl a) = rw (refuses r n p (inl a))
   only (refused n p) (inr (inl b)) = rw (refuses r n p (inr (inl b)))
-  only (refused n p) (inr (inr (inl c))) = rw (refuses r n p (inr (inr c)))
-  only (refused n p) (inr (inr (inr (i, (m, s, l, z))))) = rw (gives r m s, lt-ltb room (lengthOf m) l, i, z)
+  only (refused n p) (inr (inr (inl c))) = rw (refuses r n p (inr (inr (inl c))))
+  only (refused n p) (inr (inr (inr (inl c)))) = rw (refuses r n p (inr (inr (inr c))))
+  only (refused n p) (inr (inr (inr (inr (i, (m, s, l, z)))))) = rw (gives r m s, lt-ltb room (lengthOf m) l, i, z)
   only (given n) (m, s, l, z) = rw (gives r m s, le-ltb room (lengthOf m) l, z)
 
   when : (a : Answer ℕ) → (build r room ≡ a) ↔ Earned r room a
@@ -353,13 +419,14 @@ module _ (r : List ℕ) (room : ℕ) where
   Recorded n = (3 ≤ n) × (n ≤ 10) × (n ≡ 9 → ⊥)
 
   record-number : (n p : ℕ) → AtRecord n r p → Recorded n
-  record-number n place (t, q, ns, p, k, c, o, d, u) = first-in Recorded (faults t r q ns p k) n d (omega arith)
+  record-number n place (t, q, w, ns, p, k, c, o, d, u) = first-in Recorded (faults t r q ns p k) n d (omega arith)
 
-  earned-number : (n p : ℕ) → Earned r room (refused n p) → (1 ≤ n) × (n ≤ 10)
-  earned-number n p (inl a) = head-number (λ m. (1 ≤ m) × (m ≤ 10)) n p (omega arith) a
+  earned-number : (n p : ℕ) → Earned r room (refused n p) → (1 ≤ n) × (n ≤ 11)
+  earned-number n p (inl a) = head-number (λ m. (1 ≤ m) × (m ≤ 11)) n p (omega arith) a
   earned-number n p (inr (inl b)) = omega (arith, b .0)
   earned-number n p (inr (inr (inl c))) = omega (arith, record-number n p c)
-  earned-number n p (inr (inr (inr d))) = omega (arith, d .0)
+  earned-number n p (inr (inr (inr (inl d)))) = omega (arith, d .0)
+  earned-number n p (inr (inr (inr (inr d)))) = omega (arith, d .0)
 
   pub one : One r room
   one = record { earned = earned; only = only; numbers = λ n p e. earned-number n p (when (refused n p) .0 e) }
@@ -373,7 +440,8 @@ module _ (r : List ℕ) (room : ℕ) where
       by (inl a) = inl a
       by (inr (inl b)) = absurd (omega (arith, b .0))
       by (inr (inr (inl c))) = inr c
-      by (inr (inr (inr d))) = absurd (l .2 (d .0))
+      by (inr (inr (inr (inl d)))) = absurd (omega (arith, d .0))
+      by (inr (inr (inr (inr d)))) = absurd (l .2 (d .0))
 
   not-head : (n p : ℕ) → Recorded n → Numbers (λ m. m ≡ n → ⊥) (headFaults r) → (build r room ≡ refused n p) ↔ AtRecord n r p
   not-head n p l d = (λ e. ⊎-elim (λ a. absurd (head-number (λ m. m ≡ n → ⊥) n p d a refl)) (λ c. c) (of-record n p l .0 e), λ c. of-record n p l .1 (inr c))
@@ -382,19 +450,29 @@ module _ (r : List ℕ) (room : ℕ) where
   no-head p (inl a) = a
   no-head p (inr (inl b)) = absurd (omega (arith, b .0))
   no-head p (inr (inr (inl c))) = absurd (omega (arith, record-number 1 p c))
-  no-head p (inr (inr (inr d))) = absurd (omega (arith, d .0))
+  no-head p (inr (inr (inr (inl d)))) = absurd (omega (arith, d .0))
+  no-head p (inr (inr (inr (inr d)))) = absurd (omega (arith, d .0))
 
   bad-kind : (p : ℕ) → Earned r room (refused 2 p) → BadKind r p
   bad-kind p (inl a) = absurd (head-number (λ m. m ≡ 2 → ⊥) 2 p (omega arith) a refl)
   bad-kind p (inr (inl b)) = b .1
   bad-kind p (inr (inr (inl c))) = absurd (omega (arith, record-number 2 p c))
-  bad-kind p (inr (inr (inr d))) = absurd (omega (arith, d .0))
+  bad-kind p (inr (inr (inr (inl d)))) = absurd (omega (arith, d .0))
+  bad-kind p (inr (inr (inr (inr d)))) = absurd (omega (arith, d .0))
+
+  incomplete : (p : ℕ) → Earned r room (refused 11 p) → Incomplete r p
+  incomplete p (inl a) = absurd (head-number (λ m. m ≡ 11 → ⊥) 11 p (omega arith) a refl)
+  incomplete p (inr (inl b)) = absurd (omega (arith, b .0))
+  incomplete p (inr (inr (inl c))) = absurd (omega (arith, record-number 11 p c))
+  incomplete p (inr (inr (inr (inl d)))) = d .1
+  incomplete p (inr (inr (inr (inr d)))) = absurd (omega (arith, d .0))
 
   no-room : (p : ℕ) → Earned r room (refused 9 p) → NoRoom r room p
   no-room p (inl a) = absurd (head-number (λ m. m ≡ 9 → ⊥) 9 p (omega arith) a refl)
   no-room p (inr (inl b)) = absurd (omega (arith, b .0))
   no-room p (inr (inr (inl c))) = absurd (record-number 9 p c .2 refl)
-  no-room p (inr (inr (inr d))) = d .1
+  no-room p (inr (inr (inr (inl d)))) = absurd (omega (arith, d .0))
+  no-room p (inr (inr (inr (inr d)))) = d .1
 
   pub exactly : Exactly r room
   exactly =
@@ -408,6 +486,7 @@ module _ (r : List ℕ) (room : ℕ) where
         wrongKind = λ p. not-head 10 p (omega arith) (omega arith);
         fullNode = λ p. not-head 7 p (omega arith) (omega arith);
         tooLong = λ p. not-head 8 p (omega arith) (omega arith);
-        noRoom = λ p. (λ e. no-room p (when (refused 9 p) .0 e), λ d. only (refused 9 p) (inr (inr (inr (refl, d)))));
+        incomplete = λ p. (λ e. incomplete p (when (refused 11 p) .0 e), λ d. only (refused 11 p) (inr (inr (inr (inl (refl, d))))));
+        noRoom = λ p. (λ e. no-room p (when (refused 9 p) .0 e), λ d. only (refused 9 p) (inr (inr (inr (inr (refl, d))))));
         length = λ n. when (given n);
       }

@@ -3,7 +3,7 @@
 use mathlib.Core.Path.{_≡_, refl, ap}
 use Prim.Native.Nat.{ℕ, zero, suc, _+_, _*_, _/_, _%_, _^_, _≤_, _<_}
 use mathlib.Core.List.{List, [], _∷_, _++_, append-assoc, append-nil}
-use mathlib.Core.Option.{some}
+use mathlib.Core.Option.{none, some}
 use mathlib.Core.Bool.{Bool, true, false}
 use native.Mathlib.Omega.{arith}
 use native.Mathlib.Nat.{mul-zero, div-lt-iff-lt-mul, mod-lt, div-add-mod'}
@@ -13,18 +13,19 @@ use lib.Dec.{eqb}
 use borrow.Author.Tests.{eqb-true, lt-ltb, le-ltb}
 use Rattle.format.specs.Bytes.{pick, at, part, given}
 use Rattle.format.specs.Layout.{Item, fld, refsGood}
-use Rattle.format.specs.Table.{Table, pptt, srat, hmat, revision, code, front, limit, headOf}
-use Rattle.format.specs.Form.{Form, processor, cache, memory, acpi, pci, rintc, domain, matrix, side, size, layout, ranges}
+use Rattle.format.specs.Table.{Table, pptt, srat, hmat, cedt, revision, code, front, limit, headOf}
+use Rattle.format.specs.Form.{Form, processor, cache, memory, acpi, pci, rintc, domain, matrix, side, bridge, window, xor, size, layout, ranges}
 use Rattle.format.specs.Node.{Node, node, sizes, starts}
 use Rattle.format.specs.Kind.{Matrix, Initiator, Target, Cell, body}
-use Rattle.format.specs.Recipe.{cut, setting, unset, step, means, run, tableOf, headed, meaning}
+use Rattle.format.specs.Recipe.{cut, setting, unset, step, lacking, means, run, tableOf, headed, meaning}
 use Rattle.format.specs.Normal.{call, eachSet, settings, calls, callsOf, recipeOf}
 use Rattle.laws.proofs.Finds.{All}
 use Rattle.laws.proofs.Lays.{Fit, fit-length}
 use Rattle.laws.proofs.Fits.{fld-fit}
 use Rattle.laws.proofs.Shapes.{tableFor}
 use Rattle.laws.proofs.Good.{GoodNode, Good}
-use Rattle.laws.proofs.Calls.{Leads, stay, then, lead, all-below, lead-cache, lead-memory, lead-acpi, lead-rintc, lead-domain, lead-pci, lead-processor, lead-side}
+use Rattle.laws.proofs.Calls.{Leads, Free, stay, then, lead, all-below, lead-cache, lead-memory, lead-acpi, lead-rintc, lead-domain, lead-bridge, lead-pci, lead-processor, lead-side, lead-xor, lead-window}
+use Rattle.laws.proofs.Grows.{good-lacks}
 
 -- ---- settings of one width, from index j on
 
@@ -56,23 +57,23 @@ some-columns e i (suc t) l = omega arith
 module _ (v : ℕ) (is : List ℕ) (ns : List Node) (i t : ℕ) (wi : i ≤ 255) (wt : t ≤ 255) (l : front hmat + (sizes ns + size (matrix i t)) ≤ limit) where
   one-initiator : (us : List ℕ) (j x : ℕ) → j < i → x < 256 ^ 4
       → Leads v is hmat (node (matrix i t) us ∷ ns) (call Initiator (j ∷ x ∷ [])) (node (matrix i t) (set us (4 + j) x) ∷ ns)
-  unfolding body refsGood step setting sizes
+  unfolding body refsGood step setting sizes lacking
   one-initiator us j x b o =
-      lead v is Initiator (j ∷ x ∷ []) (node (matrix i t) us ∷ ns) (fld-fit (omega arith), (fld-fit o, refl))
+      lead v is Initiator (j ∷ x ∷ []) (node (matrix i t) us ∷ ns) refl (fld-fit (omega arith), (fld-fit o, refl))
       (record { place = refl; field = lt-ltb j i b; refs = refl; room = refl; short = l })
 
   one-target : (us : List ℕ) (j x : ℕ) → j < t → x < 256 ^ 4
       → Leads v is hmat (node (matrix i t) us ∷ ns) (call Target (j ∷ x ∷ [])) (node (matrix i t) (set us (4 + i + j) x) ∷ ns)
-  unfolding body refsGood step setting sizes
+  unfolding body refsGood step setting sizes lacking
   one-target us j x b o =
-      lead v is Target (j ∷ x ∷ []) (node (matrix i t) us ∷ ns) (fld-fit (omega arith), (fld-fit o, refl))
+      lead v is Target (j ∷ x ∷ []) (node (matrix i t) us ∷ ns) refl (fld-fit (omega arith), (fld-fit o, refl))
       (record { place = refl; field = lt-ltb j t b; refs = refl; room = refl; short = l })
 
   cell-at : (us : List ℕ) (a b x : ℕ) → a < i → b < t → x < 256 ^ 2
       → Leads v is hmat (node (matrix i t) us ∷ ns) (call Cell (a ∷ b ∷ x ∷ [])) (node (matrix i t) (set us (4 + i + t + a * t + b) x) ∷ ns)
-  unfolding body refsGood step setting sizes
+  unfolding body refsGood step setting sizes lacking
   cell-at us a b x p q o =
-      lead v is Cell (a ∷ b ∷ x ∷ []) (node (matrix i t) us ∷ ns) (fld-fit (omega arith), (fld-fit (omega arith), (fld-fit o, refl)))
+      lead v is Cell (a ∷ b ∷ x ∷ []) (node (matrix i t) us ∷ ns) refl (fld-fit (omega arith), (fld-fit (omega arith), (fld-fit o, refl)))
       (record { place = refl; field = rw (lt-ltb a i p, lt-ltb b t q); refs = refl; room = refl; short = l })
 
   one-cell : (us : List ℕ) (e x : ℕ) → e < i * t → x < 256 ^ 2
@@ -119,14 +120,14 @@ module _ (v : ℕ) (is : List ℕ) (ns : List Node) (i t : ℕ) (wi : i ≤ 255)
       let bc = then v is hmat (N ((p4 ++ A) ++ (replicate (length B) 0 ++ R))) (N ((p4 ++ A) ++ (B ++ R))) (N (((p4 ++ A) ++ B) ++ (C ++ []))) (eachSet fb 0 0 B) (eachSet fc 65535 0 C) b (rw y at c) in
       rw (s, ← w) (then v is hmat (N (p4 ++ (replicate (length A) 0 ++ (T ++ R)))) (N (p4 ++ (A ++ (T ++ R)))) (N (((p4 ++ A) ++ B) ++ (C ++ []))) (eachSet fa 0 0 A) (eachSet fb 0 0 B ++ eachSet fc 65535 0 C) a (rw u at bc))
 
-lead-matrix : (v : ℕ) (is : List ℕ) (i t : ℕ) (vs : List ℕ) (ns : List Node) → GoodNode hmat (starts hmat ns) (node (matrix i t) vs) → front hmat + (sizes ns + size (matrix i t)) ≤ limit
+lead-matrix : (v : ℕ) (is : List ℕ) (i t : ℕ) (vs : List ℕ) (ns : List Node) → Free ns → GoodNode hmat (starts hmat ns) (node (matrix i t) vs) → front hmat + (sizes ns + size (matrix i t)) ≤ limit
     → Leads v is hmat ns (call Matrix (take 4 vs ++ (i ∷ t ∷ [])) ++ settings i t (drop 4 vs)) (node (matrix i t) vs ∷ ns)
 unfolding layout refsGood ranges body step sizes unset settings part
-lead-matrix v is i t [] ns g l = let z : 1 ≤ 0 = g .fit .1 .1 .1 .0 .there in absurd (omega arith)
-lead-matrix v is i t (a ∷ []) ns g l = let z : 1 ≤ 0 = g .fit .1 .1 .1 .1 .0 .there in absurd (omega arith)
-lead-matrix v is i t (a ∷ b ∷ []) ns g l = let z : 1 ≤ 0 = g .fit .1 .1 .1 .1 .1 .0 .there in absurd (omega arith)
-lead-matrix v is i t (a ∷ b ∷ c ∷ []) ns g l = let z : 1 ≤ 0 = g .fit .1 .1 .1 .1 .1 .1 .1 .1 .1 .1 .0 .there in absurd (omega arith)
-lead-matrix v is i t (a ∷ b ∷ c ∷ d ∷ ws) ns g l =
+lead-matrix v is i t [] ns free g l = let z : 1 ≤ 0 = g .fit .1 .1 .1 .0 .there in absurd (omega arith)
+lead-matrix v is i t (a ∷ []) ns free g l = let z : 1 ≤ 0 = g .fit .1 .1 .1 .1 .0 .there in absurd (omega arith)
+lead-matrix v is i t (a ∷ b ∷ []) ns free g l = let z : 1 ≤ 0 = g .fit .1 .1 .1 .1 .1 .0 .there in absurd (omega arith)
+lead-matrix v is i t (a ∷ b ∷ c ∷ []) ns free g l = let z : 1 ≤ 0 = g .fit .1 .1 .1 .1 .1 .1 .1 .1 .1 .1 .0 .there in absurd (omega arith)
+lead-matrix v is i t (a ∷ b ∷ c ∷ d ∷ ws) ns free g l =
     let f = g .fit .1 .1 .1 in
     let unit = f .1 .1 .1 .1 .1 .1 .1 in
     let wi : i ≤ 255 = g .within .0 in
@@ -139,7 +140,7 @@ lead-matrix v is i t (a ∷ b ∷ c ∷ d ∷ ws) ns g l =
     let y = split-fit t 4 (replicate (i * t) (fld 2)) (drop i ws) (x .2) in
     let z = all-below 2 (i * t) (drop t (drop i ws)) (y .2) in
     let first : Leads v is hmat ns (call Matrix six) (node (matrix i t) (p4 ++ (replicate (i + t) 0 ++ replicate (i * t) 65535)) ∷ ns) =
-    lead v is Matrix six ns (fld-fit (f .0 .below), (fld-fit (f .1 .0 .below), (fld-fit (f .1 .1 .0 .below), (fld-fit (unit .0 .below), (fld-fit (omega arith), (fld-fit (omega arith), refl))))))
+    lead v is Matrix six ns (free (some Matrix)) (fld-fit (f .0 .below), (fld-fit (f .1 .0 .below), (fld-fit (f .1 .1 .0 .below), (fld-fit (unit .0 .below), (fld-fit (omega arith), (fld-fit (omega arith), refl))))))
     (record { place = refl; field = g .ruled; refs = refl; room = refl; short = l }) in
     let more = settings-lead v is ns i t wi wt l p4 refl (take i ws) (take t (drop i ws)) (drop t (drop i ws)) (x .1) (y .1) (z .1) (x .0) (y .0) (z .0) in
     let back : take i ws ++ (take t (drop i ws) ++ drop t (drop i ws)) ≡ ws = rw (take-append-drop t (drop i ws)) (take-append-drop i ws) in
@@ -148,25 +149,28 @@ lead-matrix v is i t (a ∷ b ∷ c ∷ d ∷ ws) ns g l =
 
 -- ---- every form
 
-calls-lead : (v : ℕ) (is : List ℕ) (f : Form) (vs : List ℕ) (ns : List Node) → GoodNode (tableFor f) (starts (tableFor f) ns) (node f vs) → front (tableFor f) + (sizes ns + size f) ≤ limit
+calls-lead : (v : ℕ) (is : List ℕ) (f : Form) (vs : List ℕ) (ns : List Node) → Free ns → GoodNode (tableFor f) (starts (tableFor f) ns) (node f vs) → front (tableFor f) + (sizes ns + size f) ≤ limit
     → Leads v is (tableFor f) ns (calls f vs) (node f vs ∷ ns)
 unfolding calls sizes layout
-calls-lead v is (processor n) vs ns g l = lead-processor v is n vs ns g l
-calls-lead v is cache vs ns g l = lead-cache v is vs ns g l
-calls-lead v is memory vs ns g l = lead-memory v is vs ns g l
-calls-lead v is acpi vs ns g l = lead-acpi v is vs ns g l
-calls-lead v is pci vs ns g l = lead-pci v is vs ns (fit-length (layout pci) vs (g .fit)) g l
-calls-lead v is rintc vs ns g l = lead-rintc v is vs ns g l
-calls-lead v is domain vs ns g l = lead-domain v is vs ns g l
-calls-lead v is (matrix i t) vs ns g l = lead-matrix v is i t vs ns g l
-calls-lead v is (side n) vs ns g l = lead-side v is n vs ns g l
+calls-lead v is (processor n) vs ns free g l = lead-processor v is n vs ns free g l
+calls-lead v is cache vs ns free g l = lead-cache v is vs ns free g l
+calls-lead v is memory vs ns free g l = lead-memory v is vs ns free g l
+calls-lead v is acpi vs ns free g l = lead-acpi v is vs ns free g l
+calls-lead v is pci vs ns free g l = lead-pci v is vs ns free (fit-length (layout pci) vs (g .fit)) g l
+calls-lead v is rintc vs ns free g l = lead-rintc v is vs ns free g l
+calls-lead v is domain vs ns free g l = lead-domain v is vs ns free g l
+calls-lead v is (matrix i t) vs ns free g l = lead-matrix v is i t vs ns free g l
+calls-lead v is (side n) vs ns free g l = lead-side v is n vs ns free g l
+calls-lead v is (bridge n) vs ns free g l = lead-bridge v is vs ns free n g l
+calls-lead v is (window n) vs ns free g l = lead-window v is n vs ns (omega (arith, fit-length (layout (window n)) vs (g .fit))) free g l
+calls-lead v is (xor n) vs ns free g l = lead-xor v is n vs ns free g l
 
 all-lead : (v : ℕ) (is : List ℕ) (t : Table) (ns : List Node) → Good t ns → front t + sizes ns ≤ limit → Leads v is t [] (callsOf ns) ns
 unfolding callsOf sizes
 all-lead v is t [] g l = stay v is t []
 all-lead v is t (n ∷ ns) g l =
     let own = g .0 .own in
-    let c : Leads v is (tableFor (n .form)) ns (calls (n .form) (n .values)) (n ∷ ns) = calls-lead v is (n .form) (n .values) ns (rw own (g .0)) (rw own l) in
+    let c : Leads v is (tableFor (n .form)) ns (calls (n .form) (n .values)) (n ∷ ns) = calls-lead v is (n .form) (n .values) ns (good-lacks t ns (g .1)) (rw own (g .0)) (rw own l) in
     then v is t [] ns (n ∷ ns) (callsOf ns) (calls (n .form) (n .values)) (all-lead v is t ns (g .1) (omega arith)) (rw own at c)
 
 -- ---- the recipe of good nodes means these nodes
@@ -175,6 +179,7 @@ pub table-back : (t : Table) → tableOf (code t) ≡ some t
 table-back pptt = refl
 table-back srat = refl
 table-back hmat = refl
+table-back cedt = refl
 
 pub meaning-back : (t : Table) (is : List ℕ) (ns : List Node) → length is ≡ 26 → Good t ns → front t + sizes ns ≤ limit → meaning (recipeOf (means (headOf t is) ns)) ≡ given (means (headOf t is) ns)
 unfolding meaning headed recipeOf part run cut
@@ -183,4 +188,4 @@ meaning-back t is ns n g l =
     let k : length (is ++ cs) ≡ 26 + length cs = rw (length-append, n) in
     let m : 28 ≤ length (1 ∷ code t ∷ (is ++ cs)) = omega arith in
     let (p, q, e) = all-lead (revision t) is t ns g l 28 0 [] in
-    rw (le-ltb (length (1 ∷ code t ∷ (is ++ cs))) 28 m, table-back t, take-at is cs 26 n, drop-at is cs 26 n) (rw append-nil at e)
+    rw (le-ltb (length (1 ∷ code t ∷ (is ++ cs))) 28 m, table-back t, take-at is cs 26 n, drop-at is cs 26 n) (rw (append-nil, good-lacks t ns g none) at e)

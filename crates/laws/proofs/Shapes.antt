@@ -1,35 +1,51 @@
 -- What a reader finds in the record of each form, by computation from its layout: its type, its size, its row and its form.
-use mathlib.Core.Path.{_≡_, refl}
+use mathlib.Core.Path.{_≡_, refl, sym}
 use Prim.Native.Nat.{ℕ, zero, suc, _+_, _-_, _*_, _/_, _%_, _^_, _≤_, _<_}
 use mathlib.Core.List.{List, [], _∷_, _++_}
-use mathlib.Core.Bool.{true}
+use mathlib.Core.Bool.{Bool, true, false}
 use native.Mathlib.Omega.{arith}
-use native.Mathlib.Nat.{mul-le-mul}
+use native.Mathlib.Nat.{mul-le-mul, pow-le-pow-right, zero-lt-suc}
 use lib.ListN.{length, drop, replicate, take-append-drop}
-use borrow.Author.Tests.{eq-eqb, le-leb}
-use Rattle.format.specs.Bytes.{at, le, value, part}
+use borrow.Author.Tests.{eq-eqb, le-leb, leb-true}
+use Rattle.format.specs.Bytes.{pick, both, at, le, value, part}
 use Rattle.format.specs.Layout.{Item, fix, fld, two, to, orNone, arities, layWith}
 use Rattle.format.specs.Table.{Table, revision, least}
-use Rattle.format.specs.Form.{Form, processor, cache, memory, acpi, pci, rintc, domain, matrix, side, size, typeOf, layout, ranges}
+use Rattle.format.specs.Form.{Form, processor, cache, memory, acpi, pci, rintc, domain, matrix, side, bridge, window, xor, size, typeOf, layout, registers, ways, ranges}
 use Rattle.format.specs.Row.{home, rowType, column, matches, formIn}
 use Rattle.format.specs.Read.{typeIn, sizeIn}
 use Rattle.laws.specs.Rename.{rename}
 use Rattle.laws.specs.Demand3.{rowFor}
 use Rattle.laws.proofs.Bytes.{value-le}
-use Rattle.laws.proofs.Lays.{rest-length}
+use Rattle.laws.proofs.Lays.{rest-length, both-true}
 use Rattle.laws.proofs.Nodes.{length-record}
+use lib.Seq.{getD-drop, drop-drop}
+use lib.Dec.{leb}
 
--- the counts of a form are within their limits
-abbrev pub Within : Form → Type 0
-Within (processor n) = n ≤ 58
-Within cache = Unit
-Within memory = Unit
-Within acpi = Unit
-Within pci = Unit
-Within rintc = Unit
-Within domain = Unit
-Within (matrix i t) = (i ≤ 255) × (t ≤ 255)
-Within (side n) = n ≤ 65535
+-- a field by its place, and as the first of the fields from there on
+
+pub second : (vs : List ℕ) → at vs 1 ≡ at (drop 1 vs) 0
+second vs = sym (getD-drop 1 vs 0 0)
+
+pub third : (vs : List ℕ) → at vs 2 ≡ at (drop 1 (drop 1 vs)) 0
+third vs = rw drop-drop (sym (getD-drop 2 vs 0 0))
+
+pub fourth : (vs : List ℕ) → at vs 3 ≡ at (drop 1 (drop 1 (drop 1 vs))) 0
+fourth vs = rw (drop-drop, drop-drop) (sym (getD-drop 3 vs 0 0))
+
+-- the counts of a form are within their limits, and those that a field settles are what it says
+abbrev pub Within : Form → List ℕ → Type 0
+Within (processor n) vs = n ≤ 58
+Within cache vs = Unit
+Within memory vs = Unit
+Within acpi vs = Unit
+Within pci vs = Unit
+Within rintc vs = Unit
+Within domain vs = Unit
+Within (matrix i t) vs = (i ≤ 255) × (t ≤ 255)
+Within (side n) vs = n ≤ 65535
+Within (bridge n) vs = (at vs 1 < 256 ^ 4) × (n ≡ registers (at vs 1))
+Within (window n) vs = (at vs 2 < 256 ^ 1) × (n ≡ ways (at vs 2)) × (0 < n)
+Within (xor n) vs = n ≤ 255
 
 -- the table that a form's record belongs to
 abbrev pub tableFor : Form → Table
@@ -45,20 +61,39 @@ least-size rintc = omega arith
 least-size domain = omega arith
 least-size (matrix i t) = omega arith
 least-size (side n) = omega arith
+least-size (bridge n) = omega arith
+least-size (window n) = omega arith
+least-size (xor n) = omega arith
 
 square : (i t : ℕ) → i ≤ 255 → t ≤ 255 → i * t ≤ 255 * 255
 square i t h k = mul-le-mul h k
 
-pub size-below : (f : Form) → Within f → size f < 256 ^ 4
-size-below (processor n) w = omega arith
-size-below cache w = omega arith
-size-below memory w = omega arith
-size-below acpi w = omega arith
-size-below pci w = omega arith
-size-below rintc w = omega arith
-size-below domain w = omega arith
-size-below (matrix i t) w = omega (arith, square i t (w .0) (w .1))
-size-below (side n) w = omega arith
+-- a window has 16 ways at most
+pub few-ways : (c : ℕ) → ways c ≤ 16
+unfolding ways
+few-ways c = by (leb c 4) refl (both (leb 8 c) (leb c 10)) refl
+  where
+    power : (k c : ℕ) → c ≤ k → 2 ^ c ≤ 2 ^ k
+    power k c l = pow-le-pow-right (zero-lt-suc 1) l
+
+    by : (x : Bool) → leb c 4 ≡ x → (y : Bool) → both (leb 8 c) (leb c 10) ≡ y → pick x (2 ^ c) (pick y (3 * 2 ^ (c - 8)) 0) ≤ 16
+    by true e y f = power 4 c (leb-true c 4 e)
+    by false e true f = let l = both-true (leb 8 c) (leb c 10) f in let p = power 2 (c - 8) (omega (arith, leb-true c 10 (l .1))) in omega arith
+    by false e false f = omega arith
+
+pub size-below : (f : Form) (vs : List ℕ) → Within f vs → size f < 256 ^ 4
+size-below (processor n) vs w = omega arith
+size-below cache vs w = omega arith
+size-below memory vs w = omega arith
+size-below acpi vs w = omega arith
+size-below pci vs w = omega arith
+size-below rintc vs w = omega arith
+size-below domain vs w = omega arith
+size-below (matrix i t) vs w = omega (arith, square i t (w .0) (w .1))
+size-below (side n) vs w = omega arith
+size-below (bridge n) vs w = omega arith
+size-below (window n) vs w = omega (arith, few-ways (at vs 2), w .1)
+size-below (xor n) vs w = omega arith
 
 pub type-for : (f : Form) → typeOf f ≡ rowType (rowFor f)
 type-for (processor n) = refl
@@ -70,6 +105,9 @@ type-for rintc = refl
 type-for domain = refl
 type-for (matrix i t) = refl
 type-for (side n) = refl
+type-for (bridge n) = refl
+type-for (window n) = refl
+type-for (xor n) = refl
 
 module _ (g : ℕ → ℕ) where
   pub type-in : (f : Form) (vs rest : List ℕ) → typeIn (tableFor f) (layWith g (layout f) vs ++ rest) ≡ typeOf f
@@ -83,8 +121,11 @@ module _ (g : ℕ → ℕ) where
   type-in domain vs rest = refl
   type-in (matrix i t) vs rest = refl
   type-in (side n) vs rest = refl
+  type-in (bridge n) vs rest = refl
+  type-in (window n) vs rest = refl
+  type-in (xor n) vs rest = refl
 
-  pub size-in : (f : Form) (vs rest : List ℕ) → Within f → sizeIn (tableFor f) (layWith g (layout f) vs ++ rest) ≡ size f
+  pub size-in : (f : Form) (vs rest : List ℕ) → Within f vs → sizeIn (tableFor f) (layWith g (layout f) vs ++ rest) ≡ size f
   unfolding layWith layout le value part
   size-in (processor n) vs rest w = omega arith
   size-in cache vs rest w = refl
@@ -93,8 +134,11 @@ module _ (g : ℕ → ℕ) where
   size-in pci vs rest w = refl
   size-in rintc vs rest w = refl
   size-in domain vs rest w = refl
-  size-in (matrix i t) vs rest w = value-le 4 (size (matrix i t)) (size-below (matrix i t) w)
-  size-in (side n) vs rest w = value-le 4 (size (side n)) (size-below (side n) w)
+  size-in (matrix i t) vs rest w = value-le 4 (size (matrix i t)) (size-below (matrix i t) vs w)
+  size-in (side n) vs rest w = value-le 4 (size (side n)) (size-below (side n) vs w)
+  size-in (bridge n) vs rest w = refl
+  size-in (window n) vs rest w = value-le 2 (size (window n)) (omega (arith, few-ways (at vs 2), w .1))
+  size-in (xor n) vs rest w = value-le 2 (size (xor n)) (omega arith)
 
   count-i : (i t : ℕ) (vs : List ℕ) → i ≤ 255 → value (part (layWith g (layout (matrix i t)) vs) 12 4) ≡ i
   unfolding layWith layout le value part
@@ -108,6 +152,18 @@ module _ (g : ℕ → ℕ) where
   unfolding layWith layout le value part
   count-n n vs h = value-le 2 n (omega arith)
 
+  count-version : (n : ℕ) (vs : List ℕ) → at vs 1 < 256 ^ 4 → value (part (layWith g (layout (bridge n)) vs) 8 4) ≡ at vs 1
+  unfolding layWith layout le value part
+  count-version n vs h = rw (second vs) (value-le 4 (at (drop 1 vs) 0) (rw (second vs) at h))
+
+  count-code : (n : ℕ) (vs : List ℕ) → at vs 2 < 256 ^ 1 → value (part (layWith g (layout (window n)) vs) 24 1) ≡ at vs 2
+  unfolding layWith layout le value part
+  count-code n vs h = rw (third vs) (value-le 1 (at (drop 1 (drop 1 vs)) 0) (rw (third vs) at h))
+
+  count-maps : (n : ℕ) (vs : List ℕ) → n ≤ 255 → value (part (layWith g (layout (xor n)) vs) 7 1) ≡ n
+  unfolding layWith layout le value part
+  count-maps n vs h = value-le 1 n (omega arith)
+
   handle-acpi : (vs : List ℕ) → at (layWith g (layout acpi) vs) 3 ≡ 0
   unfolding layWith layout le
   handle-acpi vs = refl
@@ -116,7 +172,7 @@ module _ (g : ℕ → ℕ) where
   unfolding layWith layout le
   handle-pci vs = refl
 
-  column-in : (f : Form) (vs : List ℕ) → Within f → column (rowFor f) (layWith g (layout f) vs) ≡ true
+  column-in : (f : Form) (vs : List ℕ) → Within f vs → column (rowFor f) (layWith g (layout f) vs) ≡ true
   unfolding column
   column-in (processor n) vs w =
       rw (length-record g (processor n) vs, le-leb 20 (20 + 4 * n) (omega arith), le-leb (20 + 4 * n) 252 (omega arith), eq-eqb ((20 + 4 * n) % 4) 0 (omega arith))
@@ -129,12 +185,15 @@ module _ (g : ℕ → ℕ) where
   column-in (matrix i t) vs w =
       rw (length-record g (matrix i t) vs, count-i i t vs (w .0), count-t i t vs (w .1), le-leb 32 (size (matrix i t)) (omega arith), le-leb i 255 (w .0), le-leb t 255 (w .1))
   column-in (side n) vs w = rw (length-record g (side n) vs, le-leb 32 (size (side n)) (omega arith))
+  column-in (bridge n) vs w = rw (length-record g (bridge n) vs)
+  column-in (window n) vs w = rw (length-record g (window n) vs, le-leb 40 (size (window n)) (omega arith))
+  column-in (xor n) vs w = rw (length-record g (xor n) vs, le-leb 8 (size (xor n)) (omega arith))
 
-  pub row-in : (f : Form) (vs : List ℕ) → Within f → matches (revision (tableFor f)) (typeOf f) (layWith g (layout f) vs) (rowFor f) ≡ true
+  pub row-in : (f : Form) (vs : List ℕ) → Within f vs → matches (revision (tableFor f)) (typeOf f) (layWith g (layout f) vs) (rowFor f) ≡ true
   unfolding matches
   row-in f vs w = rw (eq-eqb (revision (tableFor f)) (revision (tableFor f)) refl, eq-eqb (typeOf f) (rowType (rowFor f)) (type-for f), column-in f vs w)
 
-  pub form-in : (f : Form) (vs : List ℕ) → Within f → formIn (rowFor f) (layWith g (layout f) vs) ≡ f
+  pub form-in : (f : Form) (vs : List ℕ) → Within f vs → formIn (rowFor f) (layWith g (layout f) vs) ≡ f
   unfolding formIn
   form-in (processor n) vs w =
       let e : (20 + 4 * n - 20) / 4 ≡ n = omega arith in
@@ -147,6 +206,9 @@ module _ (g : ℕ → ℕ) where
   form-in domain vs w = refl
   form-in (matrix i t) vs w = rw (count-i i t vs (w .0), count-t i t vs (w .1))
   form-in (side n) vs w = rw (count-n n vs w)
+  form-in (bridge n) vs w = rw (count-version n vs (w .0), ← w .1)
+  form-in (window n) vs w = rw (count-code n vs (w .0), ← w .1)
+  form-in (xor n) vs w = rw (count-maps n vs w)
 
 -- ---- layouts without references
 
@@ -211,3 +273,22 @@ module _ (g : ℕ → ℕ) where
   ranges-rename domain vs l = refl
   ranges-rename (matrix i t) vs l = plain-ranges (matrix i t) vs (plain-matrix i t) l
   ranges-rename (side n) vs l = plain-ranges (side n) vs (plain-fld n 2) l
+  ranges-rename (bridge n) vs l = plain-ranges (bridge n) vs tt l
+  ranges-rename (window n) vs l = plain-ranges (window n) vs (plain-fld n 4) l
+  ranges-rename (xor n) vs l = plain-ranges (xor n) vs (plain-fld n 8) l
+
+  -- nor does what a field settles
+  pub within-rename : (f : Form) (vs : List ℕ) → length vs ≡ arities (layout f) → Within f vs → Within f (rename g (layout f) vs)
+  unfolding layout
+  within-rename (processor n) vs l w = w
+  within-rename cache vs l w = w
+  within-rename memory vs l w = w
+  within-rename acpi vs l w = w
+  within-rename pci vs l w = w
+  within-rename rintc vs l w = w
+  within-rename domain vs l w = w
+  within-rename (matrix i t) vs l w = w
+  within-rename (side n) vs l w = w
+  within-rename (bridge n) vs l w = rw (rename-plain (layout (bridge n)) vs tt l) w
+  within-rename (window n) vs l w = rw (rename-plain (layout (window n)) vs (plain-fld n 4) l) w
+  within-rename (xor n) vs l w = w

@@ -9,7 +9,7 @@ use lib.ListN.{length, take, drop, getElem?}
 use lib.Seq.{take-at, drop-at, drop-drop, take-all}
 use Rattle.format.specs.Bytes.{Bytes, at, le, value, part, sum, given}
 use Rattle.format.specs.Layout.{lay, layWith}
-use Rattle.format.specs.Table.{Table, pptt, srat, hmat, sign, revision, tail, told, front, limit, Head}
+use Rattle.format.specs.Table.{Table, pptt, srat, hmat, cedt, sign, revision, tail, told, front, limit, Head}
 use Rattle.format.specs.Form.{size, layout}
 use Rattle.format.specs.Node.{Node, bytes, sizes, starts, placeOf}
 use Rattle.format.specs.Recipe.{Meaning, meaning}
@@ -45,6 +45,7 @@ unfolding le value part
 first-ten pptt len v c rest l = (refl, value-le 4 len l, refl, refl)
 first-ten srat len v c rest l = (refl, value-le 4 len l, refl, refl)
 first-ten hmat len v c rest l = (refl, value-le 4 len l, refl, refl)
+first-ten cedt len v c rest l = (refl, value-le 4 len l, refl, refl)
 
 begins : (t : Table) (len v c : ℕ) (is rest : List ℕ) → len < 256 ^ 4 → length is ≡ 26 → Begins t len v is rest (sign t ++ (le 4 len ++ (v ∷ c ∷ (is ++ rest))))
 unfolding part
@@ -59,6 +60,7 @@ unfolding layWith le
 tail-length pptt n = refl
 tail-length srat n = refl
 tail-length hmat n = refl
+tail-length cedt n = refl
 
 -- ---- the records
 

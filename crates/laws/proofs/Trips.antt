@@ -12,7 +12,7 @@ use lib.Dec.{eqb, leb, ltb}
 use borrow.Author.Tests.{eqb-true, leb-true, not-false}
 use Rattle.format.specs.Bytes.{pick, both, all, find, Bytes, at, le, value, part, sum, same, refused, given, andThen, orRefused, unless}
 use Rattle.format.specs.Layout.{width, lay, fieldsWith, fixedOk}
-use Rattle.format.specs.Table.{Table, pptt, srat, hmat, tables, sign, revision, tail, told, front, limit, headOf}
+use Rattle.format.specs.Table.{Table, pptt, srat, hmat, cedt, tables, sign, revision, tail, told, front, limit, headOf}
 use Rattle.format.specs.Node.{sizes, starts}
 use Rattle.format.specs.Recipe.{Meaning, means, meaning}
 use Rattle.format.specs.Normal.{recipeOf, normal}
@@ -97,6 +97,7 @@ unfolding width
 front-is pptt = refl
 front-is srat = refl
 front-is hmat = refl
+front-is cedt = refl
 
 -- what follows the header is fixed, whatever the number of records
 tail-laid : (t : Table) (n : ℕ) (bs : List ℕ) → Bytes bs → width (tail t) ≤ length bs → fixedOk (tail t) bs ≡ true → lay (tail t) (told t n) ≡ take (width (tail t)) bs
@@ -104,6 +105,7 @@ unfolding fieldsWith
 tail-laid pptt n bs h l e = lay-fields (tail pptt) bs h l e
 tail-laid srat n bs h l e = lay-fields (tail srat) bs h l e
 tail-laid hmat n bs h l e = lay-fields (tail hmat) bs h l e
+tail-laid cedt n bs h l e = lay-fields (tail cedt) bs h l e
 
 module _ (t : Table) (b : List ℕ) (h : Bytes b) (H : Headed t b) (n : ℕ) where
   at-least : 36 ≤ lengthIn b

@@ -10,7 +10,7 @@ use lib.Seq.{length-take-le, drop-drop}
 use lib.Dec.{leb}
 use borrow.Author.Tests.{leb-true}
 use Rattle.format.specs.Bytes.{Bytes, at, part, refused, given, orRefused}
-use Rattle.format.specs.Table.{Table, pptt, srat, hmat, front, limit, frame, least}
+use Rattle.format.specs.Table.{Table, pptt, srat, hmat, cedt, front, limit, frame, least}
 use Rattle.format.specs.Row.{known, rowOf, formIn}
 use Rattle.format.specs.Node.{Node, nodeAt, Entry, sizes, starts, atPlace, ordinalOf}
 use Rattle.format.specs.Build.{records}
@@ -41,6 +41,7 @@ pub least-pos : (t : Table) → 0 < least t
 least-pos pptt = omega arith
 least-pos srat = omega arith
 least-pos hmat = omega arith
+least-pos cedt = omega arith
 
 framed-then : (t : Table) (bs : List ℕ) → framed t bs ≡ true → (least t ≤ sizeIn t bs) × (sizeIn t bs ≤ length bs)
 unfolding framed

@@ -1,7 +1,7 @@
 -- Tests and the conditions that they test: one law for each way to put tests together, and for the first of a list.
 use mathlib.Core.Path.{_≡_, refl, sym, _∙_}
 use mathlib.Core.Logic.{_↔_, _⊎_, inl, inr}
-use Prim.Native.Nat.{ℕ, zero, suc, _+_, _%_, _≤_, _<_}
+use Prim.Native.Nat.{ℕ, zero, suc, _+_, _-_, _*_, _%_, _^_, _≤_, _<_}
 use mathlib.Core.List.{List, [], _∷_, _++_}
 use mathlib.Core.Bool.{Bool, true, false, not}
 use mathlib.Core.Option.{none, some}
@@ -12,10 +12,11 @@ use lib.Dec.{eqb, leb, ltb}
 use borrow.Author.Tests.{eqb-true, eqb-false, leb-true, leb-false, ltb-true, ltb-false}
 use Rattle.format.specs.Bytes.{pick, both, all, firstOf, find, at, value, part, same}
 use Rattle.format.specs.Layout.{Item, fix, fld, two, to, orNone, wide, fixedOk, isGood, refsGood}
-use Rattle.format.specs.Form.{Form, processor, cache, memory, acpi, pci, rintc, domain, matrix, side, cacheAttributes, matrixFlags, sideAttributes, ranges}
+use Rattle.format.specs.Form.{Form, processor, cache, memory, acpi, pci, rintc, domain, matrix, side, bridge, window, xor, cacheAttributes, matrixFlags, sideAttributes, ways, ranges}
 use Rattle.format.specs.Field.{firstBad}
 use Rattle.laws.proofs.Finds.{never, All}
 use Rattle.laws.specs.Words.{FirstOf, NoneOf, Every, FirstNot, Among, Attributes, Rules, Fixed, References}
+use native.Mathlib.Nat.{one-le-pow}
 
 -- a test is true where P holds, and false where it does not
 pub record Tests (b : Bool) (P : Type 0) : Type 0 where
@@ -123,6 +124,21 @@ tests-attributes : (f a : ℕ) → Tests (cacheAttributes f a) (Attributes f a)
 unfolding cacheAttributes
 tests-attributes f a = search tested depth 8
 
+-- a code that stands for ways
+tests-ways : (c : ℕ) → Tests (ltb 0 (ways c)) ((c ≤ 4) ⊎ ((8 ≤ c) × (c ≤ 10)))
+unfolding ways
+tests-ways c = by (leb c 4) refl (both (leb 8 c) (leb c 10)) refl
+  where
+    by : (x : Bool) → leb c 4 ≡ x → (y : Bool) → both (leb 8 c) (leb c 10) ≡ y → Tests (ltb 0 (pick x (2 ^ c) (pick y (3 * 2 ^ (c - 8)) 0))) ((c ≤ 4) ⊎ ((8 ≤ c) × (c ≤ 10)))
+    by true e y f = record { right = λ q. inl (leb-true c 4 e); wrong = λ q. absurd (let l : 1 ≤ 2 ^ c = one-le-pow c 2 (omega arith) in omega (arith, ltb-false 0 (2 ^ c) q)) }
+    by false e true f =
+        let h = tests-both (leb 8 c) (leb c 10) (tests-leb 8 c) (tests-leb c 10) in
+        let l : 1 ≤ 2 ^ (c - 8) = one-le-pow (c - 8) 2 (omega arith) in
+        record { right = λ q. inr (h .right f); wrong = λ q. absurd (omega (arith, ltb-false 0 (3 * 2 ^ (c - 8)) q)) }
+    by false e false f =
+        let h = tests-both (leb 8 c) (leb c 10) (tests-leb 8 c) (tests-leb c 10) in
+        record { right = never; wrong = λ q. elim [ inl z ↦ absurd (omega (arith, leb-false c 4 e)) | inr z ↦ h .wrong f z ] }
+
 pub tests-rules : (f : Form) (vs : List ℕ) → TestsAll (ranges f vs) (Rules f vs)
 unfolding ranges matrixFlags sideAttributes
 tests-rules (processor n) vs = tt
@@ -134,6 +150,9 @@ tests-rules rintc vs = search tested
 tests-rules domain vs = tt
 tests-rules (matrix i t) vs = search tested
 tests-rules (side n) vs = (tests-true, (tests-true, (search tested, tt)))
+tests-rules (bridge n) vs = search tested
+tests-rules (window n) vs = (tests-true, (tests-true, (tests-ways (at vs 2), search tested)))
+tests-rules (xor n) vs = search tested
 
 -- ---- zeros and fixed values
 

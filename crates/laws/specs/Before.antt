@@ -1,16 +1,17 @@
--- What order 1 of document 02 left as it was: the meaning of a recipe as document 01 alone has it, and how an answer may differ from it.
+-- What the orders of document 02 left as it was: the meaning of a recipe as document 01 alone has it, and how an answer may differ from it.
 use mathlib.Core.Path.{_≡_}
 use Prim.Native.Nat.{ℕ, _+_, _<_}
 use mathlib.Core.List.{List, [], _∷_}
 use mathlib.Core.Bool.{not}
 use lib.ListN.{length, drop}
 use lib.Dec.{eqb, ltb}
-use Rattle.format.specs.Bytes.{all, firstOf, Answer, refused, given, andThen, orRefused, unless, at, part}
+use mathlib.Core.Option.{Option}
+use Rattle.format.specs.Bytes.{all, firstOf, find, Answer, refused, given, andThen, orRefused, unless, at, part}
 use Rattle.format.specs.Layout.{refsGood}
-use Rattle.format.specs.Table.{Table, front, limit, Head, headOf}
+use Rattle.format.specs.Table.{Table, pptt, srat, hmat, cedt, code, front, limit, Head, headOf}
 use Rattle.format.specs.Node.{Node, sizes, starts, atOrdinal}
 use Rattle.format.specs.Kind.{Kind, body}
-use Rattle.format.specs.Recipe.{Calls, done, badKind, cutOff, called, cut, Step, step, added, Meaning, means, tableOf, meaning}
+use Rattle.format.specs.Recipe.{Calls, done, badKind, cutOff, called, cut, Step, step, added, Meaning, means, meaning}
 
 -- a reference that is not good is 6, for whatever reason
 unfoldable pub faultBefore : Table → List Node → Kind → List ℕ → ℕ
@@ -29,11 +30,15 @@ runBefore h ns (badKind p) = refused 2 p
 runBefore h ns (cutOff p k) = refused 3 p
 runBefore h ns (called p k vs rest) = unless (faultBefore (h .table) ns k vs) p (runBefore h (added k vs ns) rest)
 
--- the head's too
+-- the three tables of document 01
+abbrev pub tableBefore : ℕ → Option Table
+tableBefore c = find (λ t. eqb c (code t)) (pptt ∷ srat ∷ hmat ∷ [])
+
+-- the head's place too
 unfoldable pub headedBefore : List ℕ → Answer Head
 headedBefore r =
     unless (firstOf ((not (eqb (at r 0) 1), 1) ∷ (ltb (length r) 28, 3) ∷ [])) 0
-    (andThen (orRefused 5 0 (tableOf (at r 1))) (λ t. given (headOf t (part r 2 26))))
+    (andThen (orRefused 5 0 (tableBefore (at r 1))) (λ t. given (headOf t (part r 2 26))))
 
 unfoldable pub meaningBefore : List ℕ → Answer Meaning
 meaningBefore r = andThen (headedBefore r) (λ h. runBefore h [] (cut (h .table) 0 28 (drop 28 r)))
@@ -46,6 +51,10 @@ pub data Moves {A : Type 0} : Answer A → Answer A → Type 0 where
   field : (p d : ℕ) → 0 < d → Moves (refused 5 p) (refused 5 (p + d))
   kind : (p : ℕ) → Moves (refused 6 p) (refused 10 p)
 
--- of every recipe; what is built follows from what it means
+-- the head names no table that came later
+abbrev pub Older : List ℕ → Type 0
+Older r = at r 1 ≡ code cedt → ⊥
+
+-- of every such recipe; what is built follows from what it means
 abbrev pub Stays : List ℕ → Type 0
-Stays r = Moves (meaningBefore r) (meaning r)
+Stays r = Older r → Moves (meaningBefore r) (meaning r)

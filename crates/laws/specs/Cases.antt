@@ -1,12 +1,12 @@
--- Document 01's cases C1 to C12, as one statement, and cases of order 1 of document 02. Identity fields and all fields not named are 0.
+-- Document 01's cases C1 to C12, as one statement, and cases of orders 1 and 2 of document 02. Identity fields and all fields not named are 0.
 use Prim.Native.Nat.{ℕ, _+_, _*_}
 use mathlib.Core.List.{List, [], _∷_, _++_}
 use mathlib.Core.Option.{none}
 use mathlib.Core.Path.{_≡_}
 use lib.ListN.{length, drop, replicate}
 use Rattle.format.specs.Bytes.{refused, given, at, le, part}
-use Rattle.format.specs.Table.{Table, pptt, srat, hmat, code}
-use Rattle.format.specs.Kind.{Processor, Resource, Cache, Pci, Matrix, Initiator, Cell, Side}
+use Rattle.format.specs.Table.{Table, pptt, srat, hmat, cedt, code, sign}
+use Rattle.format.specs.Kind.{Processor, Resource, Cache, Pci, Matrix, Initiator, Cell, Side, Bridge, Window, WindowTarget, Xor, Map}
 use Rattle.format.specs.Build.{build, table}
 use Rattle.format.specs.Normal.{call, each}
 use Rattle.format.specs.Read.{reading, read, readPart}
@@ -64,7 +64,7 @@ withNodes more = head pptt ++ (call Processor (0 ∷ 0 ∷ 0 ∷ []) ++ (call Ca
 
 -- order 1: a bad field's own place, and the two ways in which a reference is not good
 pub record ToldByHand : Type 0 where
-  pub table : Refuses (1 ∷ 3 ∷ replicate 26 0) 5 1
+  pub table : Refuses (1 ∷ 4 ∷ replicate 26 0) 5 1
   pub size : Refuses (head pptt ++ call Cache (0 ∷ 0 ∷ 1 ∷ replicate 5 0)) 5 34  -- although its flag is off: not the flags
   pub attributes : Refuses (head pptt ++ call Cache (255 ∷ 0 ∷ 0 ∷ 0 ∷ 0 ∷ 12 ∷ 0 ∷ 0 ∷ [])) 5 43
   pub first : Refuses (head srat ++ call Pci (0 ∷ 0 ∷ 0 ∷ 0 ∷ 8 ∷ 4 ∷ [])) 5 37  -- the function, not the flags behind it
@@ -78,3 +78,50 @@ pub record ToldByHand : Type 0 where
   pub parent : Refuses (withNodes (call Processor (0 ∷ 2 ∷ 0 ∷ []))) 10 63
   pub level : Refuses (withNodes (call Cache (0 ∷ 1 ∷ replicate 6 0))) 10 63
   pub resource : Refuses (withNodes (call Processor (0 ∷ 1 ∷ 0 ∷ []) ++ call Resource (1 ∷ []))) 10 76
+
+-- a host bridge of a version
+abbrev pub withBridge : ℕ → List ℕ
+withBridge version = head cedt ++ call Bridge (7 ∷ version ∷ 0 ∷ [])
+
+-- a window by its ways' code, and more records
+abbrev pub withWindow : ℕ → List ℕ → List ℕ
+withWindow ways more = head cedt ++ (call Window (0 ∷ 0 ∷ ways ∷ 0 ∷ 0 ∷ 0 ∷ 0 ∷ []) ++ more)
+
+-- maths with n maps of 256
+abbrev pub withMaps : ℕ → List ℕ
+withMaps n = head cedt ++ (call Xor (6 ∷ []) ++ each Map (replicate n 256))
+
+-- a CEDT with one record, and its checksum
+abbrev pub holding : ℕ → List ℕ → List ℕ
+holding check bs = sign cedt ++ (le 4 (36 + length bs) ++ (1 ∷ check ∷ (replicate 26 0 ++ bs)))
+
+-- order 2: a case for each row and kind, and for each way in which a window is incomplete
+pub record CedtByHand : Type 0 where
+  pub empty : Builds (head cedt) 36 187
+  pub bridge : Builds (withBridge 0) 68 84
+  pub registers : Holds (withBridge 0) 60 8 8192
+  pub second : Builds (withBridge 1) 68 114
+  pub more : Holds (withBridge 1) 60 8 65536
+  pub window : Builds (withWindow 8 (each WindowTarget (1 ∷ 2 ∷ 3 ∷ []))) 84 76  -- code 8: 3 ways
+  pub frame : Holds (withWindow 8 (each WindowTarget (1 ∷ 2 ∷ 3 ∷ []))) 36 4 (1 + 65536 * 48)
+  pub target : Holds (withWindow 8 (each WindowTarget (1 ∷ 2 ∷ 3 ∷ []))) 80 4 3
+  pub maths : Builds (withMaps 2) 60 127
+  pub count : Holds (withMaps 2) 43 1 2
+  pub most : Holds (withMaps 255) 38 2 2048
+  pub map : Refuses (withMaps 256) 7 (28 + 2 + 9 * 255)
+  pub ended : Refuses (withWindow 0 []) 11 28
+  pub fewer : Refuses (withWindow 1 (each WindowTarget (6 ∷ []))) 11 28
+  pub unknown : Refuses (withWindow 0 (200 ∷ [])) 11 28  -- before its 2
+  pub head : Refuses (withWindow 0 (1 ∷ [])) 11 28
+  pub cut : Refuses (withWindow 0 (64 ∷ [])) 11 28  -- before its 3
+  pub its : Refuses (withWindow 0 (66 ∷ [])) 3 51
+  pub many : Refuses (withWindow 0 (each WindowTarget (6 ∷ 7 ∷ []))) 7 56
+  pub stray : Refuses (withBridge 0 ++ each WindowTarget (6 ∷ [])) 4 42
+  pub apart : Refuses (withBridge 0 ++ each Map (6 ∷ [])) 4 42
+  pub version : Refuses (withBridge 2) 5 33
+  pub ways : Refuses (withWindow 5 []) 5 45  -- before its 11
+  pub short : read (holding 114 (1 ∷ 0 ∷ 36 ∷ replicate 33 0)) every 0 ≡ given (reading 1 1 36 36 none [])
+  pub coded : read (holding 101 (1 ∷ 0 ∷ 40 ∷ (replicate 21 0 ++ (5 ∷ replicate 15 0)))) every 0 ≡ refused 26 36
+  pub settled : read (holding 90 (0 ∷ 0 ∷ 32 ∷ 0 ∷ (replicate 4 0 ++ (1 ∷ (replicate 16 0 ++ (32 ∷ replicate 6 0)))))) every 0 ≡ refused 26 36
+  pub reserved : read (holding 90 (0 ∷ 1 ∷ 32 ∷ (replicate 22 0 ++ (32 ∷ replicate 6 0)))) every 0 ≡ refused 26 36
+  pub free : read (holding 175 (3 ∷ 1 ∷ 4 ∷ 0 ∷ [])) every 0 ≡ given (reading 1 3 36 4 none [])

@@ -8,21 +8,22 @@ use lib.ListN.{length, drop}
 use lib.Dec.{eqb}
 use Rattle.format.specs.Bytes.{pick, Answer, refused, given, at, part}
 use Rattle.format.specs.Layout.{width, fields}
-use Rattle.format.specs.Table.{Table, pptt, srat, hmat, code, front, limit, headOf}
-use Rattle.format.specs.Form.{cache, memory, acpi, pci, rintc, matrix, side, typeOf}
+use Rattle.format.specs.Table.{Table, pptt, srat, hmat, cedt, code, front, limit, headOf}
+use Rattle.format.specs.Form.{cache, memory, acpi, pci, rintc, matrix, side, bridge, window, xor, registers, ways, typeOf}
 use Rattle.format.specs.Node.{Node, sizes}
-use Rattle.format.specs.Kind.{Kind, Processor, Resource, Cache, Memory, Acpi, Pci, Rintc, Domain, Matrix, Initiator, Target, Cell, Side, Handle, kindNumber, body}
-use Rattle.format.specs.Recipe.{Newest, aProcessor, aMatrix, aSide, other, newest, added, Meaning}
+use Rattle.format.specs.Kind.{Kind, Processor, Resource, Cache, Memory, Acpi, Pci, Rintc, Domain, Matrix, Initiator, Target, Cell, Side, Handle, Bridge, Window, WindowTarget, Xor, Map, kindNumber, body}
+use Rattle.format.specs.Recipe.{Newest, aList, aMatrix, other, newest, added, Meaning}
 use Rattle.format.specs.Build.{lengthOf, build}
 use Rattle.laws.specs.Words.{FirstOf, NoneOf, Every, FirstNot, Among, Rules, References}
 
 -- ---- the kinds
 
--- 16 to 18 PPTT, 32 to 35 SRAT, 48 to 54 HMAT
+-- 16 to 18 PPTT, 32 to 35 SRAT, 48 to 54 HMAT, 64 to 68 CEDT
 abbrev pub Belongs : Table → ℕ → Type 0
 Belongs pptt b = (16 ≤ b) × (b ≤ 18)
 Belongs srat b = (32 ≤ b) × (b ≤ 35)
 Belongs hmat b = (48 ≤ b) × (b ≤ 54)
+Belongs cedt b = (64 ≤ b) × (b ≤ 68)
 
 -- the kind bytes, from the first to the last, directly after which a record of the kind stands, for it joins their node; none: it makes one
 abbrev pub joins : Kind → Option (ℕ × ℕ)
@@ -40,6 +41,11 @@ joins Target = some (49, 52)
 joins Cell = some (49, 52)
 joins Side = none
 joins Handle = some (53, 54)
+joins Bridge = none
+joins Window = none
+joins WindowTarget = some (65, 66)
+joins Xor = none
+joins Map = some (67, 68)
 
 -- one that joins stands directly after a record of kind byte b
 abbrev pub After : Option (ℕ × ℕ) → ℕ → Type 0
@@ -51,20 +57,29 @@ abbrev pub earlier : Option (ℕ × ℕ) → List Node → List Node
 earlier none ns = ns
 earlier (some j) ns = drop 1 ns
 
+-- the record that made a node: one at p made one of its own, one that joins is of the node that the record at w made
+abbrev pub maker : Option (ℕ × ℕ) → ℕ → ℕ → ℕ
+maker none p w = p
+maker (some j) p w = w
+
 -- ---- what a record's node has
 
 -- how many entries its list has
 abbrev pub entries : Newest → ℕ
-entries (aProcessor n us ns) = n
+entries (aList k least most n f us ns) = n
 entries (aMatrix i t us ns) = 0
-entries (aSide n us ns) = n
 entries other = 0
+
+-- how many it has to have: a window its ways
+abbrev pub needed : Newest → ℕ
+needed (aList k least most n f us ns) = least
+needed (aMatrix i t us ns) = 0
+needed other = 0
 
 -- I and T
 abbrev pub counts : Newest → ℕ × ℕ
-counts (aProcessor n us ns) = (0, 0)
+counts (aList k least most n f us ns) = (0, 0)
 counts (aMatrix i t us ns) = (i, t)
-counts (aSide n us ns) = (0, 0)
 counts other = (0, 0)
 
 -- ---- a record of kind k with the fields vs, behind nodes of which the newest is n
@@ -85,6 +100,11 @@ Ranged Target vs n = (at vs 0 < counts n .1) ∷ []
 Ranged Cell vs n = (at vs 0 < counts n .0) ∷ (at vs 1 < counts n .1) ∷ []
 Ranged Side vs n = Rules (side 0) vs
 Ranged Handle vs n = []
+Ranged Bridge vs n = Rules (bridge (registers (at vs 1))) vs
+Ranged Window vs n = Rules (window (ways (at vs 2))) vs
+Ranged WindowTarget vs n = []
+Ranged Xor vs n = Rules (xor 0) vs
+Ranged Map vs n = []
 
 -- where each field of a body begins, counted from the kind byte
 abbrev pub places : Kind → List ℕ
@@ -102,10 +122,37 @@ places Target = 1 ∷ 2 ∷ []
 places Cell = 1 ∷ 2 ∷ 3 ∷ []
 places Side = 1 ∷ 5 ∷ 13 ∷ []
 places Handle = 1 ∷ []
+places Bridge = 1 ∷ 5 ∷ 6 ∷ []
+places Window = 1 ∷ 9 ∷ 17 ∷ 18 ∷ 19 ∷ 20 ∷ 21 ∷ []
+places WindowTarget = 1 ∷ []
+places Xor = 1 ∷ []
+places Map = 1 ∷ []
 
--- the 59th resource, the 65,536th SMBIOS handle
+-- the 59th resource, the 65,536th SMBIOS handle, a target more than the ways, the 256th map
 abbrev pub Full : Kind → Newest → Type 0
-Full k n = ((k ≡ Resource) × (58 ≤ entries n)) ⊎ ((k ≡ Handle) × (65535 ≤ entries n))
+Full Processor n = ⊥
+Full Resource n = 58 ≤ entries n
+Full Cache n = ⊥
+Full Memory n = ⊥
+Full Acpi n = ⊥
+Full Pci n = ⊥
+Full Rintc n = ⊥
+Full Domain n = ⊥
+Full Matrix n = ⊥
+Full Initiator n = ⊥
+Full Target n = ⊥
+Full Cell n = ⊥
+Full Side n = ⊥
+Full Handle n = 65535 ≤ entries n
+Full Bridge n = ⊥
+Full Window n = ⊥
+Full WindowTarget n = needed n ≤ entries n
+Full Xor n = ⊥
+Full Map n = 255 ≤ entries n
+
+-- it lacks entries
+abbrev pub Lacks : Newest → Type 0
+Lacks n = entries n < needed n
 
 -- v is not 0, and below the ordinal of the node that comes behind the nodes ns, whatever type ty it has to be of
 abbrev pub Backward : List Node → ℕ → ℕ → Type 0
@@ -119,7 +166,7 @@ Names ns v ty = Among (λ n before. (v ≡ suc (length before)) × (typeOf (n .f
 
 -- of the head
 abbrev pub headFaults : List ℕ → List (ℕ × Type 0)
-headFaults r = (1, at r 0 ≡ 1 → ⊥) ∷ (3, length r < 28) ∷ (5, 2 < at r 1) ∷ []
+headFaults r = (1, at r 0 ≡ 1 → ⊥) ∷ (3, length r < 28) ∷ (5, 3 < at r 1) ∷ []
 
 -- of a whole record of kind k with the fields vs, behind the nodes ns; b: the kind byte of the record directly before
 abbrev pub recordFaults : Table → ℕ → List Node → Kind → List ℕ → List (ℕ × Type 0)
@@ -157,24 +204,31 @@ Headed t r = (at r 0 ≡ 1) × (28 ≤ length r) × (at r 1 ≡ code t)
 abbrev pub OfKind : Table → ℕ → Kind → Type 0
 OfKind t b k = Belongs t b × (b ≡ kindNumber k)
 
--- all records of r between the head and place p are without fault, and mean the nodes ns; the last of them, or the head, starts at q
-pub data Reaches (t : Table) (r : List ℕ) : ℕ → List Node → ℕ → Type 0 where
-  start : Reaches t r 0 [] 28
-  next : {q p : ℕ} {ns : List Node} → Reaches t r q ns p → (k : Kind) → OfKind t (at r p) k → NoneOf (faults t r q ns p k)
-      → Reaches t r p (added k (fieldsAt r p k) ns) (endOf p k)
+-- what stands at p may come behind the nodes ns: where the newest lacks entries, it is one; p may be the end
+abbrev pub Ready : Table → List ℕ → List Node → ℕ → Type 0
+Ready t r ns p = Lacks (newest ns) → OfKind t (at r p) WindowTarget
 
--- a record stands at p, and none before it is faulty
-pub record Comes (t : Table) (r : List ℕ) (q : ℕ) (ns : List Node) (p : ℕ) : Type 0 where
+-- all records of r between the head and place p are without fault, and mean the nodes ns; the last of them, or the head, starts at q; the one that made the newest node at w
+pub data Reaches (t : Table) (r : List ℕ) : ℕ → ℕ → List Node → ℕ → Type 0 where
+  start : Reaches t r 0 0 [] 28
+  next : {q w p : ℕ} {ns : List Node} → Reaches t r q w ns p → Ready t r ns p → (k : Kind) → OfKind t (at r p) k → NoneOf (faults t r q ns p k)
+      → Reaches t r p (maker (joins k) p w) (added k (fieldsAt r p k) ns) (endOf p k)
+
+-- a record stands at p, none before it is faulty, and it may come there
+pub record Comes (t : Table) (r : List ℕ) (q w : ℕ) (ns : List Node) (p : ℕ) : Type 0 where
   pub head : Headed t r
-  pub reached : Reaches t r q ns p
+  pub reached : Reaches t r q w ns p
   pub here : p < length r
+  pub ready : Ready t r ns p
 
--- r means m: no record of it is faulty
+-- r means m: no record of it is faulty, and the last node lacks nothing
 pub record Says (r : List ℕ) (m : Meaning) : Type 0 where
   pub head : Headed (m .head .table) r
   pub identity : m .head ≡ headOf (m .head .table) (part r 2 26)
   pub last : ℕ
-  pub reached : Reaches (m .head .table) r last (m .nodes) (length r)
+  pub made : ℕ
+  pub reached : Reaches (m .head .table) r last made (m .nodes) (length r)
+  pub whole : Lacks (newest (m .nodes)) → ⊥
 
 -- ---- each number
 
@@ -184,13 +238,17 @@ AtHead n r place = FirstOf n (headFaults r) × (place ≡ pick (eqb n 5) 1 0)
 
 -- 2 of the record at p
 abbrev pub BadKind : List ℕ → ℕ → Type 0
-BadKind r p = (t : Table) × (q : ℕ) × (ns : List Node) × Comes t r q ns p × (Belongs t (at r p) → ⊥)
+BadKind r p = (t : Table) × (q : ℕ) × (w : ℕ) × (ns : List Node) × Comes t r q w ns p × (Belongs t (at r p) → ⊥)
 
 -- 3 to 8 and 10, of a record at p
 abbrev pub AtRecord : ℕ → List ℕ → ℕ → Type 0
 AtRecord n r place =
-    (t : Table) × (q : ℕ) × (ns : List Node) × (p : ℕ) × (k : Kind)
-    × Comes t r q ns p × OfKind t (at r p) k × FirstOf n (faults t r q ns p k) × Where n ns k (fieldsAt r p k) p place
+    (t : Table) × (q : ℕ) × (w : ℕ) × (ns : List Node) × (p : ℕ) × (k : Kind)
+    × Comes t r q w ns p × OfKind t (at r p) k × FirstOf n (faults t r q ns p k) × Where n ns k (fieldsAt r p k) p place
+
+-- 11: behind good records, the newest of whose nodes lacks entries, comes the end or what is no entry; the place is that of the node's own record
+abbrev pub Incomplete : List ℕ → ℕ → Type 0
+Incomplete r place = (t : Table) × (q : ℕ) × (ns : List Node) × (p : ℕ) × Headed t r × Reaches t r q place ns p × (Ready t r ns p → ⊥)
 
 -- 9: the table of what r means is longer than the room, and that is the place
 abbrev pub NoRoom : List ℕ → ℕ → ℕ → Type 0
@@ -210,6 +268,7 @@ pub record Exactly (r : List ℕ) (room : ℕ) : Type 0 where
   pub wrongKind : (p : ℕ) → (build r room ≡ refused 10 p) ↔ AtRecord 10 r p
   pub fullNode : (p : ℕ) → (build r room ≡ refused 7 p) ↔ AtRecord 7 r p
   pub tooLong : (p : ℕ) → (build r room ≡ refused 8 p) ↔ AtRecord 8 r p
+  pub incomplete : (p : ℕ) → (build r room ≡ refused 11 p) ↔ Incomplete r p
   pub noRoom : (p : ℕ) → (build r room ≡ refused 9 p) ↔ NoRoom r room p
   pub length : (n : ℕ) → (build r room ≡ given n) ↔ HasRoom r room n
 
@@ -217,11 +276,11 @@ pub record Exactly (r : List ℕ) (room : ℕ) : Type 0 where
 
 -- what has to hold for an answer
 abbrev pub Earned : List ℕ → ℕ → Answer ℕ → Type 0
-Earned r room (refused n p) = AtHead n r p ⊎ (((n ≡ 2) × BadKind r p) ⊎ (AtRecord n r p ⊎ ((n ≡ 9) × NoRoom r room p)))
+Earned r room (refused n p) = AtHead n r p ⊎ (((n ≡ 2) × BadKind r p) ⊎ (AtRecord n r p ⊎ (((n ≡ 11) × Incomplete r p) ⊎ ((n ≡ 9) × NoRoom r room p))))
 Earned r room (given n) = HasRoom r room n
 
 -- it holds for the answer of build, and for no other; a refusal's number is one of the list's
 pub record One (r : List ℕ) (room : ℕ) : Type 0 where
   pub earned : Earned r room (build r room)
   pub only : (a : Answer ℕ) → Earned r room a → build r room ≡ a
-  pub numbers : (n p : ℕ) → build r room ≡ refused n p → (1 ≤ n) × (n ≤ 10)
+  pub numbers : (n p : ℕ) → build r room ≡ refused n p → (1 ≤ n) × (n ≤ 11)

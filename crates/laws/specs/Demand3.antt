@@ -8,8 +8,8 @@ use mathlib.Core.Option.{Option, none, some}
 use lib.ListN.{length, take, getElem?}
 use Rattle.format.specs.Bytes.{at, part, refused, given}
 use Rattle.format.specs.Table.{Table, sign, front}
-use Rattle.format.specs.Form.{Form, processor, cache, memory, acpi, pci, rintc, domain, matrix, side, typeOf, size, layout}
-use Rattle.format.specs.Row.{Row, processors, caches, memories, initiators, rintcs, domains, matrices, sides, home, matches, knows, known}
+use Rattle.format.specs.Form.{Form, processor, cache, memory, acpi, pci, rintc, domain, matrix, side, bridge, window, xor, typeOf, size, layout}
+use Rattle.format.specs.Row.{Row, processors, caches, memories, initiators, rintcs, domains, matrices, sides, bridges, windows, xors, home, matches, knows, known}
 use Rattle.format.specs.Node.{Node, bytes, Entry, sizes, starts, placeOf}
 use Rattle.format.specs.Recipe.{Meaning, meaning}
 use Rattle.format.specs.Build.{table}
@@ -103,6 +103,9 @@ rowFor rintc = rintcs
 rowFor domain = domains
 rowFor (matrix i t) = matrices
 rowFor (side n) = sides
+rowFor (bridge n) = bridges
+rowFor (window n) = windows
+rowFor (xor n) = xors
 
 -- what a reader of every row answers on node n of a table of count records, behind the nodes before it: references are places
 abbrev pub answerOn : Table → ℕ → List Node → Node → Reading

@@ -7,7 +7,7 @@ use lib.ListN.{drop}
 use lib.Dec.{eqb}
 use Rattle.format.specs.Bytes.{pick, at, value, part, bits}
 use Rattle.format.specs.Layout.{Item, fix, fld, two, to, orNone}
-use Rattle.format.specs.Form.{Form, processor, cache, memory, acpi, pci, rintc, domain, matrix, side}
+use Rattle.format.specs.Form.{Form, processor, cache, memory, acpi, pci, rintc, domain, matrix, side, bridge, window, xor}
 
 -- ---- conditions in the order of a list, each beside its number
 
@@ -71,6 +71,11 @@ Rules (side n) vs =
     -- levels 0..3, twice, associativity 0..2, policy 0..2, four bits each
     let a : ℕ = at vs 2 in
     Any ∷ Any ∷ Every ((bits a 0 4 ≤ 3) ∷ (bits a 4 4 ≤ 3) ∷ (bits a 8 4 ≤ 2) ∷ (bits a 12 4 ≤ 2) ∷ []) ∷ []
+Rules (bridge n) vs = Any ∷ (at vs 1 ≤ 1) ∷ []
+Rules (window n) vs =
+    -- ways 0..4 or 8..10
+    Any ∷ Any ∷ ((at vs 2 ≤ 4) ⊎ ((8 ≤ at vs 2) × (at vs 2 ≤ 10))) ∷ (at vs 3 ≤ 1) ∷ (at vs 4 ≤ 6) ∷ (at vs 5 ≤ 31) ∷ []
+Rules (xor n) vs = (at vs 0 ≤ 6) ∷ []
 
 -- ---- zeros and fixed values
 

@@ -8,7 +8,7 @@ use mathlib.Core.Option.{Option, none, some}
 use native.Mathlib.Omega.{arith}
 use lib.ListN.{length, take, drop, length-append, length-take, length-drop}
 use Rattle.format.specs.Bytes.{pick, Answer, refused, given, Bytes, at, value}
-use Rattle.format.specs.Table.{Table, pptt, srat, hmat, front}
+use Rattle.format.specs.Table.{Table, pptt, srat, hmat, cedt, front}
 use Rattle.format.specs.Row.{Row}
 use Rattle.format.specs.Node.{Entry}
 use Rattle.format.specs.Read.{signed, lengthIn, own, typeIn, sizeIn, framed, Frames, ended, badFrame, framedAt, frames, Seen, entryOf, seenAs, judgeHead, walk, walked, accept}
@@ -45,6 +45,8 @@ type-low srat (x ∷ xs) h = omega (arith, h .0)
 type-low hmat [] h = omega arith
 type-low hmat (x ∷ []) h = omega (arith, h .0)
 type-low hmat (x ∷ y ∷ ys) h = omega (arith, h .0, h .1 .0)
+type-low cedt [] h = omega arith
+type-low cedt (x ∷ xs) h = omega (arith, h .0)
 
 -- ---- the number of records
 

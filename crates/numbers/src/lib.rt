@@ -4,6 +4,9 @@ ghost use lib.ListN.{length};
 ghost use Rattle.format.specs.Bytes.{over};
 ghost use Rattle.read.specs.Answers.{rowIn, fieldsIn};
 ghost use Rattle.numbers.specs.Rows.{rowAs};
+use cedt::CxlFixedMemory;
+use cedt::CxlHostBridge;
+use cedt::XorInterleaveMath;
 use hmat::MemoryProximityDomain;
 use hmat::MemorySideCache;
 use hmat::SystemLocality;
@@ -29,6 +32,9 @@ pub fn row_number(node: Node) -> u64
         Node::Domain(_) => 5,
         Node::Matrix(_) => 6,
         Node::Side(_) => 7,
+        Node::Bridge(_) => 8,
+        Node::Window(_) => 9,
+        Node::Xor(_) => 10,
         Node::Unknown => UNKNOWN,
     }
 }
@@ -46,6 +52,9 @@ pub fn put_fields(node: Node, answer: &mut [u64], at: usize)
         Node::Domain(n) => n.put_fields(answer, at),
         Node::Matrix(n) => n.put_fields(answer, at),
         Node::Side(n) => n.put_fields(answer, at),
+        Node::Bridge(n) => n.put_fields(answer, at),
+        Node::Window(n) => n.put_fields(answer, at),
+        Node::Xor(n) => n.put_fields(answer, at),
         Node::Unknown => {}
     }
 }
@@ -63,6 +72,9 @@ pub fn fields_count(node: Node) -> usize
         Node::Domain(_) => MemoryProximityDomain::FIELDS,
         Node::Matrix(_) => SystemLocality::FIELDS,
         Node::Side(_) => MemorySideCache::FIELDS,
+        Node::Bridge(_) => CxlHostBridge::FIELDS,
+        Node::Window(_) => CxlFixedMemory::FIELDS,
+        Node::Xor(_) => XorInterleaveMath::FIELDS,
         Node::Unknown => 0,
     }
 }

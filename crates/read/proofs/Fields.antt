@@ -3,49 +3,39 @@ use mathlib.Core.Path.{_≡_, refl, ap, _∙_}
 use Prim.Native.Nat.{ℕ, _-_, _/_, _≤_}
 use mathlib.Core.List.{List, [], _∷_, _++_}
 use mathlib.Core.Option.{some}
-use native.Mathlib.Omega.{arith}
 use lib.ListN.{length}
-use lib.Seq.{take-take}
 use lib.Dec.{eqb, leb}
 use borrow.Author.Tests.{leb-true}
 use Rattle.format.specs.Layout.{asIs, fieldsWith}
 use Rattle.format.specs.Form.{layout}
 use Rattle.format.specs.Table.{Table}
-use Rattle.format.specs.Row.{Row, processors, matrices, sides, column, matches, rowOf, known, formIn}
+use Rattle.format.specs.Row.{Row, processors, column, matches, rowOf, known, formIn}
 use Rattle.format.specs.Node.{Node, nodeAt}
 use Rattle.format.specs.Read.{shown, fieldsOf}
-use Rattle.laws.proofs.Bytes.{part-take}
 use Rattle.laws.proofs.Lays.{both-true}
 use Rattle.laws.proofs.Masks.{row-then, known-row}
 use Rattle.pptt.specs.Processor.{processorIn}
 use Rattle.srat.specs.declared.Handle.{Handle}
 use Rattle.srat.specs.declared.Handle.the-variants.{Acpi, Pci}
 use Rattle.srat.specs.Srat.{handleForm, handleType, handleValues}
-use Rattle.hmat.specs.Hmat.{trimmed}
 
 -- what is shown of a node
 abbrev pub showing : Node → List ℕ
 showing n = shown (n .form) (n .values)
 
-pub fields-shown : (r : Row) (bs : List ℕ) (n : Node) → n ≡ nodeAt asIs (formIn r bs) bs → showing n ≡ fieldsOf (some r) bs
+-- a record's fields are those that are shown of its node
+pub node-shown : (r : Row) (bs : List ℕ) → showing (nodeAt asIs (formIn r bs) bs) ≡ fieldsOf (some r) bs
 unfolding nodeAt fieldsOf
-fields-shown r bs n e = ap showing e
+node-shown r bs = refl
+
+pub fields-shown : (r : Row) (bs : List ℕ) (n : Node) → n ≡ nodeAt asIs (formIn r bs) bs → showing n ≡ fieldsOf (some r) bs
+fields-shown r bs n e = ap showing e ∙ node-shown r bs
 
 -- an initiator's handle type is shown in front of its fields
 pub handle-shown : (h : Handle) (d f : ℕ) → handleType h ∷ d ∷ (handleValues h ++ (f ∷ [])) ≡ shown (handleForm h) (d ∷ (handleValues h ++ (f ∷ [])))
 unfolding shown
 handle-shown (Acpi h u) d f = refl
 handle-shown (Pci s b v k) d f = refl
-
--- values and cells of a matrix are not shown
-pub matrix-shown : (bs : List ℕ) (n : Node) → n ≡ trimmed 4 (nodeAt asIs (formIn matrices bs) bs) → showing n ≡ fieldsOf (some matrices) bs
-unfolding nodeAt fieldsOf formIn shown
-matrix-shown bs n e = ap showing e ∙ rw (take-take 3 4 _ (omega arith), part-take _ 4 3 1 (omega arith))
-
--- nor are the handles of a side cache
-pub side-shown : (bs : List ℕ) (n : Node) → n ≡ trimmed 3 (nodeAt asIs (formIn sides bs) bs) → showing n ≡ fieldsOf (some sides) bs
-unfolding nodeAt fieldsOf formIn shown
-side-shown bs n e = ap showing e ∙ rw (take-take 3 3 _ (omega arith))
 
 -- a processor's record has at most 252 bytes
 pub processor-short : (t : Table) (rev mask ty : ℕ) (bs : List ℕ) → known mask (rowOf t rev ty bs) ≡ some processors → length bs ≤ 252

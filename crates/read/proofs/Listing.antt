@@ -9,7 +9,7 @@ use native.Mathlib.Omega.{arith}
 use lib.ListN.{length, drop, getElem?, length-take, length-drop}
 use lib.Dec.{ltb}
 use Rattle.format.specs.Bytes.{pick, Answer, refused, given, andThen, ofGiven, orRefused, unless, at, value, part}
-use Rattle.format.specs.Table.{Table, pptt, srat, hmat, front}
+use Rattle.format.specs.Table.{Table, pptt, srat, hmat, cedt, front}
 use Rattle.format.specs.Node.{Entry}
 use Rattle.format.specs.Read.{signed, own, headFault, judgeHead, framed, Seen, seenAs, entryOf, walk, walked, accept, chosen, readingOf, read, partOf, readPart}
 use Rattle.laws.proofs.Bytes.{value-byte}
@@ -28,6 +28,7 @@ front-low none = omega arith
 front-low (some pptt) = omega arith
 front-low (some srat) = omega arith
 front-low (some hmat) = omega arith
+front-low (some cedt) = omega arith
 
 pub first-low : (b : List ℕ) → firstPlace b ≤ 48
 first-low b = front-low (signed b)

@@ -11,8 +11,8 @@ use lib.Dec.{eqb}
 use Rattle.format.specs.Bytes.{pick, both, firstOf, at, value, part}
 use Rattle.format.specs.Layout.{to, orNone, asIs, fieldsWith, fields, isGood, refsGood}
 use Rattle.format.specs.Table.{Table, pptt}
-use Rattle.format.specs.Form.{processor, cache, acpi, pci, layout}
-use Rattle.format.specs.Row.{Row, processors, caches, memories, initiators, rintcs, domains, matrices, sides, home, rowOf, formIn, known}
+use Rattle.format.specs.Form.{processor, cache, acpi, pci, layout, ways}
+use Rattle.format.specs.Row.{Row, processors, caches, memories, initiators, rintcs, domains, matrices, sides, bridges, windows, xors, home, rowOf, formIn, known}
 use Rattle.format.specs.Read.{sound, recordFault}
 use Rattle.laws.proofs.Offsets.{fields-at}
 use Rattle.laws.proofs.Shapes.{Plain, plain-fld, plain-matrix}
@@ -33,6 +33,9 @@ Bare rintcs = Unit
 Bare domains = Unit
 Bare matrices = Unit
 Bare sides = Unit
+Bare bridges = Unit
+Bare windows = Unit
+Bare xors = Unit
 
 plain-handle : (b : Bool) → Plain (layout (pick b acpi pci))
 unfolding layout
@@ -49,6 +52,9 @@ plain-row rintcs bs b = tt
 plain-row domains bs b = tt
 plain-row matrices bs b = plain-matrix (value (part bs 12 4)) (value (part bs 16 4))
 plain-row sides bs b = plain-fld (value (part bs 30 2)) 2
+plain-row bridges bs b = tt
+plain-row windows bs b = plain-fld (ways (value (part bs 24 1))) 4
+plain-row xors bs b = plain-fld (value (part bs 7 1)) 8
 
 -- a row of another table than a PPTT
 bare-row : (r : Row) → (home r ≡ pptt → ⊥) → Bare r
@@ -60,6 +66,9 @@ bare-row rintcs z = tt
 bare-row domains z = tt
 bare-row matrices z = tt
 bare-row sides z = tt
+bare-row bridges z = tt
+bare-row windows z = tt
+bare-row xors z = tt
 
 -- a row that is known of a record is of its table
 pub known-of : (t : Table) (rev ty mask : ℕ) (bs : List ℕ) (m o : Option Row) → m ≡ rowOf t rev ty bs → o ≡ known mask m → RowOf t o

@@ -5,7 +5,7 @@ use mathlib.Core.List.{List}
 use mathlib.Core.Option.{Option, none, some}
 use lib.Dec.{eqb}
 use Rattle.format.specs.Bytes.{pick, Answer, refused, given, at}
-use Rattle.format.specs.Row.{Row, processors, caches, memories, initiators, rintcs, domains, matrices, sides}
+use Rattle.format.specs.Row.{Row, processors, caches, memories, initiators, rintcs, domains, matrices, sides, bridges, windows, xors}
 use Rattle.format.specs.Read.{Reading, reading}
 use Rattle.laws.specs.Unique.{Fixes}
 use Rattle.laws.proofs.Sole.{sole, sole-meant}
@@ -45,6 +45,10 @@ nodeOf (some domains) vs = node.Domain (record { «proximity_domain_initiator» 
 nodeOf (some matrices) vs =
     node.Matrix (record { flags = at vs 0; «data_type» = at vs 1; «min_transfer_size» = at vs 2; «entry_base_unit» = at vs 5; initiators = at vs 3; targets = at vs 4 })
 nodeOf (some sides) vs = node.Side (record { «proximity_domain» = at vs 0; «cache_size» = at vs 1; attributes = at vs 2; «smbios_handles» = at vs 3 })
+nodeOf (some bridges) vs = node.Bridge (record { «host_bridge_uid» = at vs 0; «cxl_version» = at vs 1; «port_base» = at vs 2 })
+nodeOf (some windows) vs =
+    node.Window (record { «base_addr» = at vs 0; size = at vs 1; «interleave_ways» = at vs 2; «interleave_arithmetic» = at vs 3; «interleave_granularity» = at vs 4; «window_restrictions» = at vs 5; «qtg_id» = at vs 6 })
+nodeOf (some xors) vs = node.Xor (record { granularity = at vs 0; xormaps = at vs 1 })
 
 initiator-back : (d f : ℕ) (h : Handle) → nodeOf (some initiators) (fieldsIn (node.Initiator (record { «proximity_domain» = d; handle = h; flags = f }))) ≡ node.Initiator (record { «proximity_domain» = d; handle = h; flags = f })
 initiator-back d f (Acpi h u) = refl
@@ -59,6 +63,9 @@ node-back (node.Rintc n) = refl
 node-back (node.Domain n) = refl
 node-back (node.Matrix n) = refl
 node-back (node.Side n) = refl
+node-back (node.Bridge n) = refl
+node-back (node.Window n) = refl
+node-back (node.Xor n) = refl
 node-back node.Unknown = refl
 
 abbrev recordOf : Reading → Shown

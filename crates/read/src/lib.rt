@@ -16,6 +16,9 @@ ghost use Rattle.marks.specs.Marks.{Every};
 ghost use Rattle.frames.specs.Frames.{framesOf, Passed, refers};
 ghost use Rattle.read.specs.Places.{RowOf, linked, refsIn, judgedAt, counted, bodyAt, seenAt, partAt, firstPlace, behind};
 ghost use Rattle.read.specs.Answers.{rowIn, fieldsIn, shownAs, stepAs, acceptedAs, shown};
+use cedt::CxlFixedMemory;
+use cedt::CxlHostBridge;
+use cedt::XorInterleaveMath;
 use frames::Judged;
 use frames::Refusal;
 use frames::Spelled;
@@ -134,6 +137,9 @@ fn refs_good(c: &[u8], marks: &[u64], shift: u32, own: usize, row: Row, body: &[
         Row::Domains => true,
         Row::Matrices => true,
         Row::Sides => true,
+        Row::Bridges => true,
+        Row::Windows => true,
+        Row::Xors => true,
         Row::Unknown => true,
     }
 }
@@ -155,6 +161,7 @@ fn refs_stand(
         Table::Pptt => refs_good(c, marks, shift, own, row, body),
         Table::Srat => true,
         Table::Hmat => true,
+        Table::Cedt => true,
     }
 }
 
@@ -255,6 +262,9 @@ pub enum Node {
     Domain(MemoryProximityDomain),
     Matrix(SystemLocality),
     Side(MemorySideCache),
+    Bridge(CxlHostBridge),
+    Window(CxlFixedMemory),
+    Xor(XorInterleaveMath),
     Unknown,
 }
 
@@ -322,6 +332,9 @@ fn node_in(row: Row, body: &[u8]) -> Node
         Row::Domains => Node::Domain(MemoryProximityDomain::get(body, 0)),
         Row::Matrices => Node::Matrix(SystemLocality::get(body, 0)),
         Row::Sides => Node::Side(MemorySideCache::get(body, 0)),
+        Row::Bridges => Node::Bridge(CxlHostBridge::get(body, 0)),
+        Row::Windows => Node::Window(CxlFixedMemory::get(body, 0)),
+        Row::Xors => Node::Xor(XorInterleaveMath::get(body, 0)),
         Row::Unknown => Node::Unknown,
     }
 }

@@ -4,7 +4,7 @@ use Prim.Native.Nat.{ℕ, zero, suc, _+_, _*_, _-_, _%_, _≤_, _<_}
 use mathlib.Core.List.{List, [], _∷_, _++_, append-nil}
 use native.Mathlib.Omega.{arith}
 use native.Mathlib.Numerals.{add-one}
-use native.Mathlib.Nat.{add-comm, mul-zero, mul-suc}
+use native.Mathlib.Nat.{add-comm, add-zero, mul-zero, mul-suc}
 use lib.ListN.{length, replicate, length-append}
 use lib.Dec.{eqb}
 use Rattle.format.specs.Bytes.{pick, value, part, le, over}
@@ -85,12 +85,12 @@ list-end g it bs n i p l =
 
 module _ {a b ys : List ℕ} {at p : ℕ} (g : ℕ → ℕ) (it : Item) (bs : List ℕ) (n i q : ℕ) where
   -- a call for each
-  pub come-each : {b′ : List ℕ} {p′ v q′ : ℕ} (k : Kind) → i < n → takenWith g it (value (part bs q (wide it))) ≡ v ∷ [] → q′ ≡ q + wide it → Laid b b′ p (call k (v ∷ [])) p′
+  come-each : {b′ : List ℕ} {p′ v q′ : ℕ} (k : Kind) → i < n → takenWith g it (value (part bs q (wide it))) ≡ v ∷ [] → q′ ≡ q + wide it → Laid b b′ p (call k (v ∷ [])) p′
       → Coming a at ys b p (each k (fieldsAt g (replicate (n - i) it) bs q)) → Coming a at ys b′ p′ (each k (fieldsAt g (replicate (n - (i + 1)) it) bs q′))
   unfolding each
   come-each k l o s c m = rw s (come c (rw (list-turn g it bs n i q l, o) at m))
 
-  pub each-laid : (k : Kind) → n ≤ i → Coming a at ys b p (each k (fieldsAt g (replicate (n - i) it) bs q)) → Laid a b at ys p
+  each-laid : (k : Kind) → n ≤ i → Coming a at ys b p (each k (fieldsAt g (replicate (n - i) it) bs q)) → Laid a b at ys p
   unfolding each
   each-laid k l m = all-laid (rw (list-end g it bs n i q l) at m)
 
@@ -104,6 +104,33 @@ module _ {a b ys : List ℕ} {at p : ℕ} (g : ℕ → ℕ) (it : Item) (bs : Li
   pub set-laid : (s : ℕ → ℕ → List ℕ) (u : ℕ) → n ≤ i → Coming a at ys b p (eachSet s u i (fieldsAt g (replicate (n - i) it) bs q)) → Laid a b at ys p
   unfolding eachSet
   set-laid s u l m = all-laid (rw (list-end g it bs n i q l) at m)
+
+-- ---- the loop that lays a call for each number of a list, each call z bytes long
+
+module _ (g : ℕ → ℕ) (it : Item) (k : Kind) (z start : ℕ) (bs : List ℕ) (n : ℕ) (a : List ℕ) (at : ℕ) where
+  -- of the n numbers from start on i are laid, up to place p, and the calls of the others are still to come
+  abbrev pub Turning : List ℕ → ℕ → ℕ → Type 0
+  Turning b p i =
+      (i ≤ n) × (p ≡ at + z * i)
+      × Coming a at (each k (fieldsAt g (replicate n it) bs start)) b p (each k (fieldsAt g (replicate (n - i) it) bs (start + wide it * i)))
+
+  pub turn-first : Turning a at 0
+  turn-first =
+      let e : n - 0 ≡ n = omega arith in
+      (omega arith, rw (mul-zero, add-zero), rw (e, mul-zero, add-zero) (all-coming a at (each k (fieldsAt g (replicate n it) bs start))))
+
+  module _ {b : List ℕ} {p i : ℕ} (m : Turning b p i) where
+    pub turn-next : {b′ xs : List ℕ} {r v : ℕ} → i < n → suc (width (body k)) ≡ z → takenWith g it (value (part bs (start + wide it * i) (wide it))) ≡ v ∷ [] → b′ ≡ over b p xs → r ≡ length xs → xs ≡ call k (v ∷ [])
+        → Turning b′ (p + r) (i + 1)
+    turn-next {b′} {xs} {r} {v} l s o w e x =
+        let t : (y q : ℕ) → q + y * (i + 1) ≡ q + y * i + y = λ y q. rw (add-one, mul-suc) (omega arith) in
+        let h : r ≡ z = e ∙ ap length x ∙ length-call k (v ∷ []) ∙ s in
+        (omega arith, rw (t z at, h, ← m .1), come-each g it bs n i (start + wide it * i) k l o (t (wide it) start) (put-laid w e x) (m .2))
+
+    pub turn-end : n ≤ i → Laid a b at (each k (fieldsAt g (replicate n it) bs start)) p × (p ≤ at + z * n)
+    turn-end l =
+        let e : i ≡ n = omega (arith, m .0) in
+        (each-laid g it bs n i (start + wide it * i) k l (m .2), rw (← e) (omega (arith, m .1)))
 
 -- a list of references is as long whatever they are
 pub length-each : (k : Kind) (g : ℕ → ℕ) (y n : ℕ) (bs : List ℕ) (p : ℕ) → length (each k (fieldsAt g (replicate n (to y)) bs p)) ≡ suc (width (body k)) * n

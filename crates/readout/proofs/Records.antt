@@ -11,17 +11,17 @@ use lib.Seq.{take-at, drop-at, drop-drop}
 use lib.ListN.{length, length-append, take, drop, replicate, replicate-append-replicate}
 use Rattle.format.specs.Bytes.{pick, at, value, part, over}
 use Rattle.format.specs.Layout.{Item, fld, to, asIs, width, layWith, fieldsWith}
-use Rattle.format.specs.Form.{Form, processor, cache, memory, acpi, pci, rintc, domain, matrix, side, layout}
-use Rattle.format.specs.Row.{initiators, matrices, sides, formIn}
-use Rattle.format.specs.Kind.{Processor, Resource, Cache, Memory, Acpi, Pci, Rintc, Domain, Matrix, Cell, Side, Handle, body}
+use Rattle.format.specs.Form.{Form, processor, cache, memory, acpi, pci, rintc, domain, matrix, side, bridge, window, xor, layout, ways}
+use Rattle.format.specs.Row.{initiators, matrices, sides, windows, xors, formIn}
+use Rattle.format.specs.Kind.{Kind, Processor, Resource, Cache, Memory, Acpi, Pci, Rintc, Domain, Matrix, Cell, Side, Handle, Bridge, Window, WindowTarget, Xor, Map, body}
 use Rattle.format.specs.Normal.{call, each, eachSet, settings, calls, callsOfNode}
-use Rattle.laws.specs.Offsets.{fieldsAt}
-use Rattle.format.specs.Node.{Node, node, nodeAt}
+use Rattle.laws.specs.Offsets.{fieldsAt, trimmed}
+use Rattle.format.specs.Node.{Node, nodeAt}
 use Rattle.format.specs.Read.{shown}
 use Rattle.laws.proofs.Finds.{never}
 use Rattle.laws.proofs.Shapes.{Plain, plain-fld}
 use Rattle.laws.proofs.Fields.{length-call, fields-plain}
-use Rattle.laws.proofs.Offsets.{fields-at, node-at}
+use Rattle.laws.proofs.Offsets.{fields-at, node-at, form-known}
 use Rattle.pptt.specs.declared.ProcessorHandle.{ProcessorHandle}
 use Rattle.pptt.specs.declared.ProcessorNode.{ProcessorNode}
 use Rattle.pptt.specs.declared.CacheHandle.{CacheHandle}
@@ -30,7 +30,11 @@ use Rattle.pptt.specs.Processor.{processorShown, processorIn}
 use Rattle.pptt.specs.Cache.{cacheShown, cacheNode, cacheBefore}
 use Rattle.hmat.specs.declared.SystemLocality.{SystemLocality}
 use Rattle.hmat.specs.declared.MemorySideCache.{MemorySideCache}
-use Rattle.hmat.specs.Hmat.{trimmed, matrixForm, matrixFields, matrixCall, matrixHead, sideForm, sideFields, sideHead}
+use Rattle.hmat.specs.Hmat.{matrixForm, matrixFields, matrixCall, matrixHead, sideForm, sideFields, sideHead}
+use Rattle.cedt.specs.declared.CxlFixedMemory.{CxlFixedMemory}
+use Rattle.cedt.specs.declared.XorInterleaveMath.{XorInterleaveMath}
+use Rattle.cedt.specs.Cedt.{windowForm, windowFields, windowNode, mathsForm, mathsFields, mathsHead}
+use Rattle.read.proofs.Refs.{plain-row}
 use Rattle.readout.specs.Laid.{Laid}
 use Rattle.readout.specs.Places.{setting, callsIn}
 use Rattle.readout.proofs.Lists.{length-each, low-word}
@@ -95,16 +99,40 @@ matrix-calls g bs n e =
     let more = settings I T (fieldsAt g (replicate (I + T) (fld 4) ++ replicate (I * T) (fld 2)) bs 32) in
     rw (calls-at g (formIn matrices bs) bs, i, t) (ap (λ (vs : List ℕ). call Matrix (vs ++ (I ∷ T ∷ [])) ++ more) (sym s))
 
-pub side-calls : (g : ℕ → ℕ) (bs : List ℕ) (n : MemorySideCache) → sideHead n ≡ trimmed 3 (nodeAt asIs (formIn sides bs) bs)
-    → callsIn g (formIn sides bs) bs ≡ call Side (sideFields n) ++ each Handle (fieldsAt asIs (replicate (n .«smbios_handles») (fld 2)) bs 32)
-unfolding formIn calls layout
-side-calls g bs n e =
-    let k = value (part bs 30 2) in
-    let d : sideHead n ≡ node (side k) (take 3 (fieldsAt g (layout (side k)) bs 0)) = e ∙ ap (trimmed 3) (node-at asIs (formIn sides bs) bs) in
-    let f : sideForm n ≡ side k = ap (λ (m : Node). m .form) d in
-    let i : n .«smbios_handles» ≡ k = cc in
-    let s : sideFields n ≡ take 3 (fieldsAt g (layout (side k)) bs 0) = ap (λ (m : Node). m .values) d in
-    rw (calls-at g (formIn sides bs) bs, s, i, list-plain g k 2 bs 32)
+-- g: how a reference is read, of which there are none; head: the node before the list, of the m fields that the call K has; J: the call of each number
+module _ (g : ℕ → ℕ) (f : Form) (bs : List ℕ) (head : Node) (m : ℕ) (e : head ≡ trimmed m (nodeAt asIs f bs)) where
+  list-calls : (K J : Kind) (vs : List ℕ) → Plain (layout f) → ((us : List ℕ) → calls f us ≡ call K (take m us) ++ each J (drop m us)) → drop m (fieldsAt asIs (layout f) bs 0) ≡ vs
+      → callsIn g f bs ≡ call K (head .values) ++ each J vs
+  unfolding callsIn nodeAt
+  list-calls K J vs h c d =
+      let s : take m (fieldsWith asIs (layout f) bs) ≡ head .values = sym (ap (λ (x : Node). x .values) e) in
+      let l : drop m (fieldsWith asIs (layout f) bs) ≡ vs = rw (fields-at asIs (layout f) bs 0) d in
+      rw (fields-plain g asIs (layout f) bs h, c, s, l)
+
+module _ (g : ℕ → ℕ) (bs : List ℕ) where
+  pub side-calls : (n : MemorySideCache) → sideHead n ≡ trimmed 3 (nodeAt asIs (formIn sides bs) bs)
+      → callsIn g (formIn sides bs) bs ≡ call Side (sideFields n) ++ each Handle (fieldsAt asIs (replicate (n .«smbios_handles») (fld 2)) bs 32)
+  unfolding formIn calls layout
+  side-calls n e =
+      let f : sideForm n ≡ formIn sides bs = form-known 3 _ bs e in
+      let i : n .«smbios_handles» ≡ value (part bs 30 2) = cc in
+      rw i (list-calls g (formIn sides bs) bs (sideHead n) 3 e Side Handle _ (plain-row sides bs tt) (λ us. refl) refl)
+
+  pub window-calls : (n : CxlFixedMemory) → windowNode n ≡ trimmed 7 (nodeAt asIs (formIn windows bs) bs)
+      → callsIn g (formIn windows bs) bs ≡ call Window (windowFields n) ++ each WindowTarget (fieldsAt asIs (replicate (ways (n .«interleave_ways»)) (fld 4)) bs 36)
+  unfolding formIn calls layout
+  window-calls n e =
+      let f : windowForm n ≡ formIn windows bs = form-known 7 _ bs e in
+      let i : ways (n .«interleave_ways») ≡ ways (value (part bs 24 1)) = cc in
+      rw i (list-calls g (formIn windows bs) bs (windowNode n) 7 e Window WindowTarget _ (plain-row windows bs tt) (λ us. refl) refl)
+
+  pub maths-calls : (n : XorInterleaveMath) → mathsHead n ≡ trimmed 1 (nodeAt asIs (formIn xors bs) bs)
+      → callsIn g (formIn xors bs) bs ≡ call Xor (mathsFields n) ++ each Map (fieldsAt asIs (replicate (n .xormaps) (fld 8)) bs 8)
+  unfolding formIn calls layout
+  maths-calls n e =
+      let f : mathsForm n ≡ formIn xors bs = form-known 1 _ bs e in
+      let i : n .xormaps ≡ value (part bs 7 1) = cc in
+      rw i (list-calls g (formIn xors bs) bs (mathsHead n) 1 e Xor Map _ (plain-row xors bs tt) (λ us. refl) refl)
 
 -- ---- records of one call, by their nodes
 
@@ -118,6 +146,9 @@ one rintc = true
 one domain = true
 one (matrix i t) = false
 one (side n) = false
+one (bridge n) = true
+one (window n) = false
+one (xor n) = false
 
 one-short : (f : Form) (vs : List ℕ) → one f ≡ true → length (calls f vs) ≤ 28
 unfolding calls body width
@@ -130,6 +161,9 @@ one-short rintc vs h = rw (length-call Rintc vs) (omega arith)
 one-short domain vs h = rw (length-call Domain vs) (omega arith)
 one-short (matrix i t) vs h = never h
 one-short (side n) vs h = never h
+one-short (bridge n) vs h = rw (length-call Bridge vs) (omega arith)
+one-short (window n) vs h = never h
+one-short (xor n) vs h = never h
 
 -- n: the node of a record bs
 module _ (f : Form) (bs : List ℕ) (n : Node) (e : n ≡ nodeAt asIs f bs) where

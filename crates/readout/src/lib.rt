@@ -12,7 +12,7 @@ ghost use Rattle.format.specs.Read.{own};
 ghost use Rattle.format.specs.Build.{fitting, written};
 ghost use Rattle.format.specs.Out.{readOut, outWritten};
 ghost use Rattle.format.specs.Form.{cache};
-ghost use Rattle.format.specs.Row.{processors, matrices, sides, formIn};
+ghost use Rattle.format.specs.Row.{processors, matrices, sides, windows, xors, formIn};
 ghost use Rattle.format.specs.Kind as format;
 ghost use Rattle.format.specs.Normal.{call, each, eachSet, settings};
 ghost use Rattle.laws.specs.Offsets.{fieldsAt};
@@ -24,6 +24,9 @@ ghost use Rattle.read.specs.Places.{RowOf};
 ghost use Rattle.readout.specs.Laid.{Laid};
 ghost use Rattle.readout.specs.Places.{Small, ordinalAt, setting, callsIn, callsAs, isRow, callsAt, measured, recipeAs, outAs};
 ghost use Rattle.readout.specs.Answers.{measuredAs, shown, numberOf, placeOf};
+use cedt::CxlFixedMemory;
+use cedt::CxlHostBridge;
+use cedt::XorInterleaveMath;
 use frames::Refusal;
 use frames::Spelled;
 use header::Table;
@@ -117,6 +120,34 @@ fn put_handles(body: &[u8], n: usize, out: &mut [u8], at: usize) -> usize
     let mut i = 0;
     while i < n {
         p += MemorySideCache::smbios_handle(body, 0, i).put_body(out, p);
+        i += 1;
+    }
+    p
+}
+
+// The targets of a window.
+fn put_targets(body: &[u8], n: usize, out: &mut [u8], at: usize) -> usize
+    requires { ⌜ (n ≤ 1000000) × (at ≤ 2000000000000000) ⌝ }
+    ensures { λ r. ⌜ Laid (now (out .entry)) (now (out .exit)) at (each format.WindowTarget (fieldsAt asIs (replicate n (fld 4)) (now (body .entry)) 36)) r × (r ≤ at + 5 * n) ⌝ }
+{
+    let mut p = at;
+    let mut i = 0;
+    while i < n {
+        p += CxlFixedMemory::interleave_target(body, 0, i).put_body(out, p);
+        i += 1;
+    }
+    p
+}
+
+// The maps of XOR mathematics.
+fn put_maps(body: &[u8], n: usize, out: &mut [u8], at: usize) -> usize
+    requires { ⌜ (n ≤ 1000000) × (at ≤ 2000000000000000) ⌝ }
+    ensures { λ r. ⌜ Laid (now (out .entry)) (now (out .exit)) at (each format.Map (fieldsAt asIs (replicate n (fld 8)) (now (body .entry)) 8)) r × (r ≤ at + 9 * n) ⌝ }
+{
+    let mut p = at;
+    let mut i = 0;
+    while i < n {
+        p += XorInterleaveMath::xormap(body, 0, i).put_body(out, p);
         i += 1;
     }
     p
@@ -287,6 +318,24 @@ fn put_side(body: &[u8], out: &mut [u8], at: usize) -> usize
     put_handles(body, node.smbios_handles as usize, out, p)
 }
 
+fn put_window(body: &[u8], out: &mut [u8], at: usize) -> usize
+    requires { ⌜ at ≤ 1500000000000000 ⌝ }
+    ensures { λ r. ⌜ ((g : ℕ → ℕ) → Laid (now (out .entry)) (now (out .exit)) at (callsIn g (formIn windows (now (body .entry))) (now (body .entry))) r) × (r ≤ at + 2000000) ⌝ }
+{
+    let node = CxlFixedMemory::get(body, 0);
+    let p = at + node.put_body(out, at);
+    put_targets(body, node.num_interleaved_ways() as usize, out, p)
+}
+
+fn put_maths(body: &[u8], out: &mut [u8], at: usize) -> usize
+    requires { ⌜ at ≤ 1500000000000000 ⌝ }
+    ensures { λ r. ⌜ ((g : ℕ → ℕ) → Laid (now (out .entry)) (now (out .exit)) at (callsIn g (formIn xors (now (body .entry))) (now (body .entry))) r) × (r ≤ at + 2000000) ⌝ }
+{
+    let node = XorInterleaveMath::get(body, 0);
+    let p = at + node.put_body(out, at);
+    put_maps(body, node.xormaps as usize, out, p)
+}
+
 // Whether a row is there.
 fn is_known(row: Row) -> bool
     ensures { λ r. ⌜ r ≡ isRow (rowMeant row) ⌝ }
@@ -300,6 +349,9 @@ fn is_known(row: Row) -> bool
         Row::Domains => true,
         Row::Matrices => true,
         Row::Sides => true,
+        Row::Bridges => true,
+        Row::Windows => true,
+        Row::Xors => true,
         Row::Unknown => false,
     }
 }
@@ -328,11 +380,14 @@ fn put_record(
         Row::Domains => at + MemoryProximityDomain::get(body, 0).put_body(out, at),
         Row::Matrices => put_matrix(body, out, at),
         Row::Sides => put_side(body, out, at),
+        Row::Bridges => at + CxlHostBridge::get(body, 0).put_body(out, at),
+        Row::Windows => put_window(body, out, at),
+        Row::Xors => put_maths(body, out, at),
         Row::Unknown => at,
     }
 }
 
-// How many bytes these calls are: the lists of an HMAT are counted over a buffer without room.
+// How many bytes these calls are: the lists of an HMAT or a CEDT are counted over a buffer without room.
 fn calls_len(row: Row, body: &[u8]) -> usize
     requires { ⌜ Small (rowMeant row) (now body) ⌝ }
     ensures { λ r. ⌜ ((g : ℕ → ℕ) → r ≡ length (callsAs g (rowMeant row) (now (body .entry)))) × (r ≤ 2000000) ⌝ }
@@ -350,6 +405,9 @@ fn calls_len(row: Row, body: &[u8]) -> usize
         Row::Domains => 1 + MemoryProximityDomain::BODY,
         Row::Matrices => put_matrix(body, &mut none, 0),
         Row::Sides => put_side(body, &mut none, 0),
+        Row::Bridges => 1 + CxlHostBridge::BODY,
+        Row::Windows => put_window(body, &mut none, 0),
+        Row::Xors => put_maths(body, &mut none, 0),
         Row::Unknown => 0,
     }
 }

@@ -3,7 +3,7 @@ use mathlib.Core.Path.{_≡_, refl, ap, _∙_}
 use Prim.Native.Nat.{ℕ}
 use mathlib.Core.List.{List}
 use Rattle.format.specs.Layout.{fields, fieldsWith}
-use Rattle.format.specs.Kind.{Kind, Processor, Resource, Cache, Memory, Acpi, Pci, Rintc, Domain, Matrix, Initiator, Target, Cell, Side, Handle, body}
+use Rattle.format.specs.Kind.{Kind, Processor, Resource, Cache, Memory, Acpi, Pci, Rintc, Domain, Matrix, Initiator, Target, Cell, Side, Handle, Bridge, Window, WindowTarget, Xor, Map, body}
 use Rattle.recipe.specs.Kinds.{meantKind, referenceOf, listed, references}
 use Rattle.recipe.proofs.Kind.refers.Reads as refers
 
@@ -23,6 +23,11 @@ kind-refers Target bs = refl
 kind-refers Cell bs = refl
 kind-refers Side bs = refl
 kind-refers Handle bs = refl
+kind-refers Bridge bs = refl
+kind-refers Window bs = refl
+kind-refers WindowTarget bs = refl
+kind-refers Xor bs = refl
+kind-refers Map bs = refl
 
 -- `Kind::refers`, by its contract
 pub refers-body : (k : _) (a : _) (x : _) (p : _) → refers.Learnt k a x p

@@ -7,10 +7,10 @@ use native.Mathlib.Nat.{mul-le-mul}
 use native.Mathlib.Omega.{arith}
 use borrow.Author.Tests.{ne-eqb}
 use Rattle.format.specs.Bytes.{at}
-use Rattle.format.specs.Table.{Table, pptt, srat, hmat}
+use Rattle.format.specs.Table.{Table, pptt, srat, hmat, cedt}
 use Rattle.format.specs.Layout.{width, fields}
 use Rattle.format.specs.Form.{size}
-use Rattle.format.specs.Kind.{Kind, Processor, Resource, Cache, Memory, Acpi, Pci, Rintc, Domain, Matrix, Initiator, Target, Cell, Side, Handle, kindOf, body}
+use Rattle.format.specs.Kind.{Kind, Processor, Resource, Cache, Memory, Acpi, Pci, Rintc, Domain, Matrix, Initiator, Target, Cell, Side, Handle, Bridge, Window, WindowTarget, Xor, Map, kindOf, body}
 use Rattle.laws.proofs.Bytes.{value-byte}
 use Rattle.laws.proofs.Fields.{fields-now}
 use Rattle.hmat.specs.declared.SystemLocality.{SystemLocality}
@@ -20,22 +20,26 @@ abbrev pub first : Table → ℕ
 first pptt = 16
 first srat = 32
 first hmat = 48
+first cedt = 64
 
 abbrev pub last : Table → ℕ
 last pptt = 18
 last srat = 35
 last hmat = 54
+last cedt = 68
 
 pub unnamed : (t : Table) (b : ℕ) → (first t ≤ b → b ≤ last t → ⊥) → kindOf t b ≡ none
 unfolding kindOf
 unnamed pptt b h = rw (ne-eqb b 16 (λ e. h (omega arith) (omega arith)), ne-eqb b 17 (λ e. h (omega arith) (omega arith)), ne-eqb b 18 (λ e. h (omega arith) (omega arith)))
 unnamed srat b h = rw (ne-eqb b 32 (λ e. h (omega arith) (omega arith)), ne-eqb b 33 (λ e. h (omega arith) (omega arith)), ne-eqb b 34 (λ e. h (omega arith) (omega arith)), ne-eqb b 35 (λ e. h (omega arith) (omega arith)))
 unnamed hmat b h = rw (ne-eqb b 48 (λ e. h (omega arith) (omega arith)), ne-eqb b 49 (λ e. h (omega arith) (omega arith)), ne-eqb b 50 (λ e. h (omega arith) (omega arith)), ne-eqb b 51 (λ e. h (omega arith) (omega arith)), ne-eqb b 52 (λ e. h (omega arith) (omega arith)), ne-eqb b 53 (λ e. h (omega arith) (omega arith)), ne-eqb b 54 (λ e. h (omega arith) (omega arith)))
+unnamed cedt b h = rw (ne-eqb b 64 (λ e. h (omega arith) (omega arith)), ne-eqb b 65 (λ e. h (omega arith) (omega arith)), ne-eqb b 66 (λ e. h (omega arith) (omega arith)), ne-eqb b 67 (λ e. h (omega arith) (omega arith)), ne-eqb b 68 (λ e. h (omega arith) (omega arith)))
 
-pub nowhere : (t : Table) (b : ℕ) → (16 ≤ b → b ≤ 18 → ⊥) → (32 ≤ b → b ≤ 35 → ⊥) → (48 ≤ b → b ≤ 54 → ⊥) → kindOf t b ≡ none
-nowhere pptt b p s h = unnamed pptt b p
-nowhere srat b p s h = unnamed srat b s
-nowhere hmat b p s h = unnamed hmat b h
+pub nowhere : (t : Table) (b : ℕ) → (16 ≤ b → b ≤ 18 → ⊥) → (32 ≤ b → b ≤ 35 → ⊥) → (48 ≤ b → b ≤ 54 → ⊥) → (64 ≤ b → b ≤ 68 → ⊥) → kindOf t b ≡ none
+nowhere pptt b p s h c = unnamed pptt b p
+nowhere srat b p s h c = unnamed srat b s
+nowhere hmat b p s h c = unnamed hmat b h
+nowhere cedt b p s h c = unnamed cedt b c
 
 -- a number that is at least a, and not a
 pub past : {a b : ℕ} → a ≤ b → (b ≡ a → ⊥) → suc a ≤ b
@@ -52,7 +56,7 @@ matrix-short m bs e h l =
     omega (arith, mul-le-mul a b)
 
 -- a body is short
-pub body-short : (k : Kind) → width (body k) ≤ 21
+pub body-short : (k : Kind) → width (body k) ≤ 22
 unfolding width body
 body-short Processor = omega arith
 body-short Resource = omega arith
@@ -68,3 +72,8 @@ body-short Target = omega arith
 body-short Cell = omega arith
 body-short Side = omega arith
 body-short Handle = omega arith
+body-short Bridge = omega arith
+body-short Window = omega arith
+body-short WindowTarget = omega arith
+body-short Xor = omega arith
+body-short Map = omega arith

@@ -1,26 +1,27 @@
 -- What one record does to the state: the nodes that the state stands for grow by it, or the newest of them changes.
 use mathlib.Core.Path.{_≡_, refl, sym, ap, _∙_}
-use Prim.Native.Nat.{ℕ, suc, _+_, _≤_}
+use Prim.Native.Nat.{ℕ, suc, _+_, _-_, _≤_}
 use mathlib.Core.List.{List, [], _∷_, _++_}
 use mathlib.Core.Bool.{Bool, true, false, not}
 use native.Mathlib.Omega.{arith}
 use native.Mathlib.Nat.{add-zero, add-assoc}
 use native.Mathlib.Numerals.{add-one}
-use lib.ListN.{length, take}
+use lib.ListN.{length, take, length-append}
 use lib.Dec.{eqb, leb, ltb}
 use borrow.Author.Tests.{le-ltb}
 use denote.Enum.Declared.{tagOf}
 use types.Run.{OneOf, miss}
 use Rattle.format.specs.Bytes.{pick, all, firstOf, Answer, refused, given, unless, at}
-use Rattle.format.specs.Layout.{width, fields, refsGood}
+use Rattle.format.specs.Layout.{width, fieldsWith, fields, refsGood}
 use Rattle.format.specs.Table.{Table, front, limit}
-use Rattle.format.specs.Form.{Form, processor, cache, memory, acpi, pci, rintc, domain, matrix, side, size, ranges}
+use Rattle.format.specs.Form.{Form, processor, cache, memory, acpi, pci, rintc, domain, matrix, side, bridge, window, xor, size, ranges}
 use Rattle.format.specs.Node.{Node, node, sizes, starts, isOrdinal, atOrdinal}
-use Rattle.format.specs.Kind.{Kind, Processor, Resource, Cache, Handle, body}
-use Rattle.format.specs.Recipe.{Step as Asked, Newest, aProcessor, aMatrix, aSide, other, newest, newestAs, resource, handle, setting, stray, makes, step, fault, faultAt}
+use Rattle.format.specs.Kind.{Kind, Processor, Resource, Cache, Handle, WindowTarget, Map, body}
+use Rattle.format.specs.Recipe.{Step as Asked, Newest, aList, aMatrix, other, newest, newestAs, joined, setting, stray, makes, step, fault, faultAt}
 use Rattle.format.specs.Field.{maker, badIn, badField}
 use Rattle.laws.proofs.Tests.{both-right}
-use Rattle.laws.proofs.Fits.{second}
+use Rattle.laws.proofs.Shapes.{second}
+use Rattle.laws.proofs.Grows.{View, seesProcessor, seesMatrix, seesSide, seesWindow, seesXor, seesOther, view}
 use Rattle.laws.proofs.Fields.{all-bad, good-fields, body-window}
 use Rattle.recipe.specs.declared.Newest as kept
 use Rattle.recipe.specs.declared.Newest.the-variants as is
@@ -28,7 +29,7 @@ use Rattle.recipe.specs.declared.State.{State}
 use Rattle.recipe.specs.declared.Refusal.the-variants.{TooLong}
 use Rattle.recipe.specs.declared.Step.{Step}
 use Rattle.recipe.specs.declared.Step.the-variants.{Next, Refused, BadField}
-use Rattle.recipe.specs.Machine.{newestKept, stateOf, Sound, grown, madeBy, typesOf, ofType, refers, Typed, stepped, turn}
+use Rattle.recipe.specs.Machine.{newestKept, stateOf, Sound, Begun, grown, madeBy, typesOf, ofType, refers, Typed, stepped, turn}
 use Rattle.recipe.proofs.Newest.{the-type}
 use Rattle.recipe.proofs.Refers.{refers-new, refers-joined}
 
@@ -159,6 +160,8 @@ abbrev pub Parted : kept.Newest → List Node → Type 0
 Parted (is.Processor n) ns = (us : List ℕ) × (ms : List Node) × (ns ≡ node (processor n) us ∷ ms)
 Parted (is.Matrix i t) ns = (us : List ℕ) × (ms : List Node) × (ns ≡ node (matrix i t) us ∷ ms)
 Parted (is.Side n) ns = (us : List ℕ) × (ms : List Node) × (ns ≡ node (side n) us ∷ ms)
+Parted (is.Window n k) ns = (us : List ℕ) × (ms : List Node) × (ns ≡ node (window n) us ∷ ms) × (length us - 7 ≡ k)
+Parted (is.Xor n) ns = (us : List ℕ) × (ms : List Node) × (ns ≡ node (xor n) us ∷ ms)
 Parted is.Other ns = newest ns ≡ other
 
 parted-as : (f : Form) (us : List ℕ) (ms : List Node) → Parted (newestKept (newestAs f us ms)) (node f us ∷ ms)
@@ -171,6 +174,9 @@ parted-as rintc us ms = refl
 parted-as domain us ms = refl
 parted-as (matrix i t) us ms = (us, ms, refl)
 parted-as (side n) us ms = (us, ms, refl)
+parted-as (bridge n) us ms = refl
+parted-as (window n) us ms = (us, ms, refl, refl)
+parted-as (xor n) us ms = (us, ms, refl)
 
 pub parted-all : (ns : List Node) → Parted (newestKept (newest ns)) ns
 parted-all [] = refl
@@ -183,35 +189,62 @@ parted t ns s w e h =
 
 -- a record that has nothing to join: the tags are those of the other variants
 module _ (t : Table) (ns : List Node) (s : State) (e : s ≡ stateOf t ns) where
-  pub stray-resource : (vs : List ℕ) → OneOf (1 ∷ 2 ∷ 3 ∷ []) (tagOf the-type (s .newest)) → resource vs (newest ns) ≡ stray
-  unfolding resource
-  stray-resource vs h = go (newest ns) (rw e at h)
+  pub stray-resource : (vs : List ℕ) → OneOf (1 ∷ 2 ∷ 3 ∷ 4 ∷ 5 ∷ []) (tagOf the-type (s .newest)) → joined Resource vs (newest ns) ≡ stray
+  unfolding joined
+  stray-resource vs h = go (view ns) (rw e at h)
     where
-      go : (x : Newest) → OneOf (1 ∷ 2 ∷ 3 ∷ []) (tagOf the-type (newestKept x)) → resource vs x ≡ stray
-      go (aProcessor n us ms) h = absurd (miss (1 ∷ 2 ∷ 3 ∷ []) 0 tt h)
-      go (aMatrix i j us ms) h = refl
-      go (aSide n us ms) h = refl
-      go other h = refl
+      go : {ns : List Node} {x : Newest} → View ns x → OneOf (1 ∷ 2 ∷ 3 ∷ 4 ∷ 5 ∷ []) (tagOf the-type (newestKept x)) → joined Resource vs x ≡ stray
+      go seesProcessor h = absurd (miss (1 ∷ 2 ∷ 3 ∷ 4 ∷ 5 ∷ []) 0 tt h)
+      go seesMatrix h = refl
+      go seesSide h = refl
+      go seesWindow h = refl
+      go seesXor h = refl
+      go seesOther h = refl
 
-  pub stray-setting : (tests : ℕ → ℕ → List Bool) (field : ℕ → ℕ → ℕ) (v : ℕ) → OneOf (0 ∷ 2 ∷ 3 ∷ []) (tagOf the-type (s .newest)) → setting tests field v (newest ns) ≡ stray
+  pub stray-setting : (tests : ℕ → ℕ → List Bool) (field : ℕ → ℕ → ℕ) (v : ℕ) → OneOf (0 ∷ 2 ∷ 3 ∷ 4 ∷ 5 ∷ []) (tagOf the-type (s .newest)) → setting tests field v (newest ns) ≡ stray
   unfolding setting
   stray-setting tests field v h = go (newest ns) (rw e at h)
     where
-      go : (x : Newest) → OneOf (0 ∷ 2 ∷ 3 ∷ []) (tagOf the-type (newestKept x)) → setting tests field v x ≡ stray
-      go (aProcessor n us ms) h = refl
-      go (aMatrix i j us ms) h = absurd (miss (0 ∷ 2 ∷ 3 ∷ []) 1 tt h)
-      go (aSide n us ms) h = refl
+      go : (x : Newest) → OneOf (0 ∷ 2 ∷ 3 ∷ 4 ∷ 5 ∷ []) (tagOf the-type (newestKept x)) → setting tests field v x ≡ stray
+      go (aList k needs most n f us ms) h = refl
+      go (aMatrix i j us ms) h = absurd (miss (0 ∷ 2 ∷ 3 ∷ 4 ∷ 5 ∷ []) 1 tt h)
       go other h = refl
 
-  pub stray-handle : (vs : List ℕ) → OneOf (0 ∷ 1 ∷ 3 ∷ []) (tagOf the-type (s .newest)) → handle vs (newest ns) ≡ stray
-  unfolding handle
-  stray-handle vs h = go (newest ns) (rw e at h)
+  pub stray-handle : (vs : List ℕ) → OneOf (0 ∷ 1 ∷ 3 ∷ 4 ∷ 5 ∷ []) (tagOf the-type (s .newest)) → joined Handle vs (newest ns) ≡ stray
+  unfolding joined
+  stray-handle vs h = go (view ns) (rw e at h)
     where
-      go : (x : Newest) → OneOf (0 ∷ 1 ∷ 3 ∷ []) (tagOf the-type (newestKept x)) → handle vs x ≡ stray
-      go (aProcessor n us ms) h = refl
-      go (aMatrix i j us ms) h = refl
-      go (aSide n us ms) h = absurd (miss (0 ∷ 1 ∷ 3 ∷ []) 2 tt h)
-      go other h = refl
+      go : {ns : List Node} {x : Newest} → View ns x → OneOf (0 ∷ 1 ∷ 3 ∷ 4 ∷ 5 ∷ []) (tagOf the-type (newestKept x)) → joined Handle vs x ≡ stray
+      go seesProcessor h = refl
+      go seesMatrix h = refl
+      go seesSide h = absurd (miss (0 ∷ 1 ∷ 3 ∷ 4 ∷ 5 ∷ []) 2 tt h)
+      go seesWindow h = refl
+      go seesXor h = refl
+      go seesOther h = refl
+
+  pub stray-target : (vs : List ℕ) → OneOf (0 ∷ 1 ∷ 2 ∷ 4 ∷ 5 ∷ []) (tagOf the-type (s .newest)) → joined WindowTarget vs (newest ns) ≡ stray
+  unfolding joined
+  stray-target vs h = go (view ns) (rw e at h)
+    where
+      go : {ns : List Node} {x : Newest} → View ns x → OneOf (0 ∷ 1 ∷ 2 ∷ 4 ∷ 5 ∷ []) (tagOf the-type (newestKept x)) → joined WindowTarget vs x ≡ stray
+      go seesProcessor h = refl
+      go seesMatrix h = refl
+      go seesSide h = refl
+      go seesWindow h = absurd (miss (0 ∷ 1 ∷ 2 ∷ 4 ∷ 5 ∷ []) 3 tt h)
+      go seesXor h = refl
+      go seesOther h = refl
+
+  pub stray-map : (vs : List ℕ) → OneOf (0 ∷ 1 ∷ 2 ∷ 3 ∷ 5 ∷ []) (tagOf the-type (s .newest)) → joined Map vs (newest ns) ≡ stray
+  unfolding joined
+  stray-map vs h = go (view ns) (rw e at h)
+    where
+      go : {ns : List Node} {x : Newest} → View ns x → OneOf (0 ∷ 1 ∷ 2 ∷ 3 ∷ 5 ∷ []) (tagOf the-type (newestKept x)) → joined Map vs x ≡ stray
+      go seesProcessor h = refl
+      go seesMatrix h = refl
+      go seesSide h = refl
+      go seesWindow h = refl
+      go seesXor h = absurd (miss (0 ∷ 1 ∷ 2 ∷ 3 ∷ 5 ∷ []) 4 tt h)
+      go seesOther h = refl
 
 -- ---- records that join it
 
@@ -227,7 +260,7 @@ module _ (t : Table) (s : State) (p : ℕ) (bs : List ℕ) where
 
     resource-at : (us : List ℕ) (ms : List Node) → s ≡ stateOf t (node (processor n) us ∷ ms) → Typed ws (typesOf (node (processor n) us ∷ ms))
         → turn t (node (processor n) us ∷ ms) Resource bs p ≡ withResource
-    unfolding step resource sizes
+    unfolding step joined sizes
     resource-at us ms e w =
         let ns : List Node = node (processor n) us ∷ ms in
         let more : List Node = node (processor (suc n)) (us ++ fields (body Resource) bs) ∷ ms in
@@ -248,7 +281,7 @@ module _ (t : Table) (s : State) (p : ℕ) (bs : List ℕ) where
     withHandle = pick (leb 65535 n) (refused 7 p) (stepped p (grown s (s .nodes) 2 (is.Side (n + 1))))
 
     handle-at : (us : List ℕ) (ms : List Node) → s ≡ stateOf t (node (side n) us ∷ ms) → turn t (node (side n) us ∷ ms) Handle bs p ≡ withHandle
-    unfolding body step refsGood handle sizes
+    unfolding body step refsGood joined sizes
     handle-at us ms e =
         let ns : List Node = node (side n) us ∷ ms in
         let more : List Node = node (side (suc n)) (us ++ fields (body Handle) bs) ∷ ms in
@@ -256,6 +289,37 @@ module _ (t : Table) (s : State) (p : ℕ) (bs : List ℕ) where
 
     pub handle-turn : (ns : List Node) → s ≡ stateOf t ns → s .newest ≡ is.Side n → turn t ns Handle bs p ≡ withHandle
     handle-turn ns e h = let (us, ms, q) = parted t ns s (is.Side n) e h in rw q (handle-at us ms (rw q at e))
+
+  module _ (n k : ℕ) where
+    -- the answer to a target behind a window of n ways with k of them
+    abbrev withTarget : Answer State
+    withTarget = pick (leb n k) (refused 7 p) (stepped p (grown s (s .nodes) 0 (is.Window n (k + 1))))
+
+    target-at : (us : List ℕ) (ms : List Node) → 7 ≤ length us → length us - 7 ≡ k → s ≡ stateOf t (node (window n) us ∷ ms) → turn t (node (window n) us ∷ ms) WindowTarget bs p ≡ withTarget
+    unfolding body fieldsWith step refsGood joined sizes
+    target-at us ms l i e =
+        let ns : List Node = node (window n) us ∷ ms in
+        let more : List Node = node (window n) (us ++ fields (body WindowTarget) bs) ∷ ms in
+        let j : k + 1 ≡ length (us ++ fields (body WindowTarget) bs) - 7 = rw length-append (omega arith) in
+        turn-judged t ns WindowTarget bs p ∙ rw (i, grown-turn t ns more p s (s .nodes) 0 (is.Window n (k + 1)) e (rw e refl) (omega arith) (ap (is.Window n) j))
+
+    pub target-turn : (ns : List Node) → s ≡ stateOf t ns → s .newest ≡ is.Window n k → Begun (newest ns) → turn t ns WindowTarget bs p ≡ withTarget
+    target-turn ns e h g = let (us, ms, q, i) = parted t ns s (is.Window n k) e h in rw q (target-at us ms ((rw q at g) refl) i (rw q at e))
+
+  module _ (n : ℕ) where
+    -- the answer to a map behind maths with n of them
+    abbrev withMap : Answer State
+    withMap = pick (leb 255 n) (refused 7 p) (stepped p (grown s (s .nodes) 8 (is.Xor (n + 1))))
+
+    map-at : (us : List ℕ) (ms : List Node) → s ≡ stateOf t (node (xor n) us ∷ ms) → turn t (node (xor n) us ∷ ms) Map bs p ≡ withMap
+    unfolding body step refsGood joined sizes
+    map-at us ms e =
+        let ns : List Node = node (xor n) us ∷ ms in
+        let more : List Node = node (xor (suc n)) (us ++ fields (body Map) bs) ∷ ms in
+        turn-judged t ns Map bs p ∙ rw (grown-turn t ns more p s (s .nodes) 8 (is.Xor (n + 1)) e (rw e refl) (omega arith) (ap is.Xor (add-one n)))
+
+    pub map-turn : (ns : List Node) → s ≡ stateOf t ns → s .newest ≡ is.Xor n → turn t ns Map bs p ≡ withMap
+    map-turn ns e h = let (us, ms, q) = parted t ns s (is.Xor n) e h in rw q (map-at us ms (rw q at e))
 
   -- a setting of a kind k behind an i by j matrix
   module _ (i j : ℕ) (k : Kind) (tests : ℕ → ℕ → List Bool) (field : ℕ → ℕ → ℕ) (v : ℕ) (small : Sound s)

@@ -11,11 +11,11 @@ use Rattle.laws.proofs.Sole.{sole, sole-meant}
 use Rattle.header.specs.Header.{tableNamed}
 use Rattle.header.proofs.Unique.{table-back}
 use Rattle.recipe.specs.declared.Kind.{Kind}
-use Rattle.recipe.specs.declared.Kind.the-variants.{Processor, Resource, Cache, Memory, Acpi, Pci, Rintc, Domain, Matrix, Initiator, Target, Cell, Side, Handle}
+use Rattle.recipe.specs.declared.Kind.the-variants.{Processor, Resource, Cache, Memory, Acpi, Pci, Rintc, Domain, Matrix, Initiator, Target, Cell, Side, Handle, Bridge, Window, WindowTarget, Xor, Map}
 use Rattle.recipe.specs.declared.Named.{Named}
 use Rattle.recipe.specs.declared.Named.the-variants.{As, Nothing}
 use Rattle.recipe.specs.declared.Refusal.{Refusal}
-use Rattle.recipe.specs.declared.Refusal.the-variants.{NoHead, BadKind, Cut, Misplaced, BadField, Forward, WrongKind, FullNode, TooLong}
+use Rattle.recipe.specs.declared.Refusal.the-variants.{NoHead, BadKind, Cut, Misplaced, BadField, Forward, WrongKind, FullNode, TooLong, Incomplete}
 use Rattle.recipe.specs.declared.Checked.{Checked}
 use Rattle.recipe.specs.declared.Checked.the-variants.{Good, Refused}
 use Rattle.recipe.specs.Kinds.{meantKind, named}
@@ -42,6 +42,11 @@ kindNamed format.Target = Target
 kindNamed format.Cell = Cell
 kindNamed format.Side = Side
 kindNamed format.Handle = Handle
+kindNamed format.Bridge = Bridge
+kindNamed format.Window = Window
+kindNamed format.WindowTarget = WindowTarget
+kindNamed format.Xor = Xor
+kindNamed format.Map = Map
 
 kind-back : (k : Kind) → kindNamed (meantKind k) ≡ k
 kind-back Processor = refl
@@ -58,6 +63,11 @@ kind-back Target = refl
 kind-back Cell = refl
 kind-back Side = refl
 kind-back Handle = refl
+kind-back Bridge = refl
+kind-back Window = refl
+kind-back WindowTarget = refl
+kind-back Xor = refl
+kind-back Map = refl
 
 abbrev namedIn : Option format.Kind → Named
 namedIn none = Nothing
@@ -76,7 +86,7 @@ one-kind = sole-meant named namedIn named-back
 -- the refusal of a number
 abbrev pub refusalOf : ℕ → Refusal
 refusalOf n =
-    pick (eqb n 1) NoHead (pick (eqb n 2) BadKind (pick (eqb n 3) Cut (pick (eqb n 4) Misplaced (pick (eqb n 5) BadField (pick (eqb n 6) Forward (pick (eqb n 10) WrongKind (pick (eqb n 7) FullNode TooLong)))))))
+    pick (eqb n 1) NoHead (pick (eqb n 2) BadKind (pick (eqb n 3) Cut (pick (eqb n 4) Misplaced (pick (eqb n 5) BadField (pick (eqb n 6) Forward (pick (eqb n 10) WrongKind (pick (eqb n 7) FullNode (pick (eqb n 8) TooLong Incomplete))))))))
 
 pub refusal-back : (f : Refusal) → refusalOf (number f) ≡ f
 refusal-back NoHead = refl
@@ -88,6 +98,7 @@ refusal-back Forward = refl
 refusal-back WrongKind = refl
 refusal-back FullNode = refl
 refusal-back TooLong = refl
+refusal-back Incomplete = refl
 
 abbrev checkedOf : Answer (Table × ℕ) → Checked
 checkedOf (refused n p) = Refused (refusalOf n) p

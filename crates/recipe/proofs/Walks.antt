@@ -1,26 +1,26 @@
 -- The records of a recipe from a place on: one more is cut off and judged, or the cut ends there. What the pass keeps stays true.
-use mathlib.Core.Path.{_≡_, refl, sym, _∙_}
-use Prim.Native.Nat.{ℕ, _+_, _*_, _/_, _%_, _^_, _≤_, _<_}
-use mathlib.Core.List.{List, [], _∷_}
+use mathlib.Core.Path.{_≡_, refl, sym, ap, _∙_}
+use Prim.Native.Nat.{ℕ, suc, _+_, _*_, _/_, _%_, _^_, _≤_, _<_}
+use mathlib.Core.List.{List, [], _∷_, _++_}
 use mathlib.Core.Bool.{Bool, true, false}
-use mathlib.Core.Option.{none, some}
+use mathlib.Core.Option.{Option, none, some}
 use native.Mathlib.Omega.{arith}
-use lib.ListN.{length, drop, set, drop-of-length-le, length-drop, length-set}
+use lib.ListN.{length, drop, set, drop-of-length-le, length-append, length-drop, length-set}
 use lib.Dec.{eqb, leb, ltb}
-use borrow.Author.Tests.{le-ltb, lt-ltb, ne-eqb, eqb-true, leb-true}
+use borrow.Author.Tests.{le-ltb, lt-ltb, eq-eqb, ne-eqb, eqb-true, eqb-false, leb-true}
 use Rattle.format.specs.Bytes.{pick, at, Answer, refused, given, unless, value, part}
-use Rattle.format.specs.Layout.{asIs, width, fields, refsGood}
-use Rattle.format.specs.Table.{Table, pptt, srat, hmat, code, front, limit, Head, headOf}
-use Rattle.format.specs.Form.{Form, processor, cache, memory, acpi, pci, rintc, domain, matrix, side, typeOf, size}
+use Rattle.format.specs.Layout.{asIs, width, fieldsWith, fields, refsGood}
+use Rattle.format.specs.Table.{Table, pptt, srat, hmat, cedt, code, front, limit, Head, headOf}
+use Rattle.format.specs.Form.{Form, processor, cache, memory, acpi, pci, rintc, domain, matrix, side, bridge, window, xor, typeOf, size}
 use Rattle.format.specs.Node.{Node, sizes}
-use Rattle.format.specs.Kind.{Kind, Processor, Resource, Cache, Cell, kindNumber, kindOf, body}
-use Rattle.format.specs.Recipe.{Newest, cutAs, cut, resource, step, added, fault, faultAt, since, run, tableOf, headed, meaning}
+use Rattle.format.specs.Kind.{Kind, Processor, Resource, Cache, Memory, Acpi, Pci, Rintc, Domain, Matrix, Initiator, Target, Cell, Side, Handle, Bridge, Window, WindowTarget, Xor, Map, kindNumber, kindOf, body}
+use Rattle.format.specs.Recipe.{Newest, aList, aMatrix, other, newest, Calls, cutOff, called, cutAs, skip, cut, joined, setting, step, added, fault, faultAt, since, lacking, means, run, tableOf, headed, meaning}
 use Rattle.laws.proofs.Bytes.{value-byte}
 use Rattle.laws.proofs.Finds.{never, unless-given}
 use Rattle.laws.proofs.Lays.{both-true}
 use Rattle.laws.proofs.Fields.{fault-within}
 use Rattle.laws.proofs.Offsets.{fields-at}
-use Rattle.laws.proofs.Grows.{View, seesProcessor, seesMatrix, seesSide, seesOther, view, passed}
+use Rattle.laws.proofs.Grows.{View, seesProcessor, seesMatrix, seesSide, seesWindow, seesXor, seesOther, view, needless, passed}
 use Rattle.laws.proofs.Builds.{kind-home}
 use Rattle.laws.proofs.Calls.{cut-at}
 use Rattle.laws.proofs.Settings.{table-back}
@@ -34,7 +34,7 @@ use Rattle.recipe.specs.declared.State.{State}
 use Rattle.recipe.specs.declared.Step.{Step}
 use Rattle.recipe.specs.declared.Step.the-variants.{Next, Refused, BadField}
 use Rattle.recipe.specs.Answers.{number, outlined}
-use Rattle.recipe.specs.Machine.{stateOf, Sound, typesOf, Bits, Typed, Clear, noted, stepped, TurnsWith, whole, Stands}
+use Rattle.recipe.specs.Machine.{newestKept, lacks, stateOf, Sound, Begun, endedWith, typesOf, Bits, Typed, Clear, noted, stepped, Knows, TurnsWith, whole, Stands}
 use Rattle.recipe.proofs.Types.{bits-parts, clear-next, typed-zero, typed-one}
 use Rattle.recipe.proofs.Refers.{length-types}
 use Rattle.recipe.proofs.Steps.{set-turn}
@@ -42,14 +42,16 @@ use Rattle.recipe.proofs.Steps.{set-turn}
 -- ---- the types of the nodes with one record more
 
 -- a resource does not change the type of the newest node
-types-resource : {ns : List Node} {x : Newest} (vs : List ℕ) → View ns x → resource vs x .placed ≡ true → typesOf (resource vs x .nodes) ≡ typesOf ns
-unfolding resource typesOf
+types-resource : {ns : List Node} {x : Newest} (vs : List ℕ) → View ns x → joined Resource vs x .placed ≡ true → typesOf (joined Resource vs x .nodes) ≡ typesOf ns
+unfolding joined typesOf
 types-resource vs seesProcessor h = refl
 types-resource vs seesMatrix h = never h
 types-resource vs seesSide h = never h
+types-resource vs seesWindow h = never h
+types-resource vs seesXor h = never h
 types-resource vs seesOther h = never h
 
--- a record of 16 bytes has no type that is a bit
+-- a record of under 20 bytes has no type that is a bit
 long-enough : (f : Form) → typeOf f < 2 → 20 ≤ size f
 long-enough (processor n) h = omega arith
 long-enough cache h = omega arith
@@ -60,6 +62,9 @@ long-enough rintc h = absurd (omega arith)
 long-enough domain h = omega arith
 long-enough (matrix i t) h = omega arith
 long-enough (side n) h = absurd (omega arith)
+long-enough (bridge n) h = omega arith
+long-enough (window n) h = omega arith
+long-enough (xor n) h = absurd (omega arith)
 
 -- so a PPTT has a node for 20 bytes at most
 fewer : (ns : List Node) → Bits (typesOf ns) → 20 * length ns ≤ sizes ns
@@ -95,17 +100,101 @@ length-noted k i ws = by (eqb (kindNumber k) (kindNumber Cache))
     by true = length-set ws (i / 64) _
     by false = refl
 
+-- ---- windows
+
+-- a list of another kind is no window's
+other-list : (k : Kind) → eqb (kindNumber k) (kindNumber WindowTarget) ≡ false → {A : Type 0} → k ≡ WindowTarget → A
+other-list k n e = absurd (eqb-false (kindNumber k) (kindNumber WindowTarget) n (ap kindNumber e))
+
+module _ (vs : List ℕ) where
+  begun-resource : {ns : List Node} {x : Newest} → View ns x → Begun (newest (joined Resource vs x .nodes))
+  unfolding joined
+  begun-resource seesProcessor = other-list Resource refl
+  begun-resource seesMatrix = tt
+  begun-resource seesSide = tt
+  begun-resource seesWindow = tt
+  begun-resource seesXor = tt
+  begun-resource seesOther = tt
+
+  begun-handle : {ns : List Node} {x : Newest} → View ns x → Begun (newest (joined Handle vs x .nodes))
+  unfolding joined
+  begun-handle seesProcessor = tt
+  begun-handle seesMatrix = tt
+  begun-handle seesSide = other-list Handle refl
+  begun-handle seesWindow = tt
+  begun-handle seesXor = tt
+  begun-handle seesOther = tt
+
+  begun-target : {ns : List Node} {x : Newest} → View ns x → Begun x → Begun (newest (joined WindowTarget vs x .nodes))
+  unfolding joined
+  begun-target seesProcessor g = tt
+  begun-target seesMatrix g = tt
+  begun-target seesSide g = tt
+  begun-target (seesWindow {n} {us}) g = λ e. rw length-append (omega (arith, g e))
+  begun-target seesXor g = tt
+  begun-target seesOther g = tt
+
+  begun-map : {ns : List Node} {x : Newest} → View ns x → Begun (newest (joined Map vs x .nodes))
+  unfolding joined
+  begun-map seesProcessor = tt
+  begun-map seesMatrix = tt
+  begun-map seesSide = tt
+  begun-map seesWindow = tt
+  begun-map seesXor = other-list Map refl
+  begun-map seesOther = tt
+
+begun-setting : (tests : ℕ → ℕ → List Bool) (place : ℕ → ℕ → ℕ) (v : ℕ) (x : Newest) → Begun (newest (setting tests place v x .nodes))
+unfolding setting
+begun-setting tests place v (aList k needs most n f us ns) = tt
+begun-setting tests place v (aMatrix i t us ns) = tt
+begun-setting tests place v other = tt
+
+-- a window begins with its seven fields, and a target is one more
+begun-added : (k : Kind) (bs : List ℕ) (ns : List Node) → Begun (newest ns) → Begun (newest (added k (fields (body k) bs) ns))
+unfolding step body fieldsWith
+begun-added Processor bs ns g = other-list Resource refl
+begun-added Resource bs ns g = begun-resource _ (view ns)
+begun-added Cache bs ns g = tt
+begun-added Memory bs ns g = tt
+begun-added Acpi bs ns g = tt
+begun-added Pci bs ns g = tt
+begun-added Rintc bs ns g = tt
+begun-added Domain bs ns g = tt
+begun-added Matrix bs ns g = tt
+begun-added Initiator bs ns g = begun-setting _ _ _ (newest ns)
+begun-added Target bs ns g = begun-setting _ _ _ (newest ns)
+begun-added Cell bs ns g = begun-setting _ _ _ (newest ns)
+begun-added Side bs ns g = other-list Handle refl
+begun-added Handle bs ns g = begun-handle _ (view ns)
+begun-added Bridge bs ns g = tt
+begun-added Window bs ns g = λ e. omega arith
+begun-added WindowTarget bs ns g = begun-target _ (view ns) g
+begun-added Xor bs ns g = other-list Map refl
+begun-added Map bs ns g = begun-map _ (view ns)
+
+-- what the newest node lacks, by what is kept of it
+lacks-as : {ns : List Node} {x : Newest} → View ns x → (o : Option Kind) → lacking x o ≡ pick (lacks (newestKept x) o) 11 0
+unfolding lacking
+lacks-as (seesProcessor {n} {us} {ns}) o = needless Resource 58 n (processor (suc n)) us ns o
+lacks-as seesMatrix o = refl
+lacks-as (seesSide {n} {us} {ns}) o = needless Handle 65535 n (side (suc n)) us ns o
+lacks-as seesWindow o = refl
+lacks-as (seesXor {n} {us} {ns}) o = needless Map 255 n (xor (suc n)) us ns o
+lacks-as seesOther o = refl
+
 -- ---- the pass
 
 meant-named : (t : Table) → meant (tableNamed t) ≡ t
 meant-named pptt = refl
 meant-named srat = refl
 meant-named hmat = refl
+meant-named cedt = refl
 
 front-short : (t : Table) → front t + 0 ≤ limit
 front-short pptt = omega arith
 front-short srat = omega arith
 front-short hmat = omega arith
+front-short cedt = omega arith
 
 -- a refusal of a step is one of the whole
 refused-also : {A B : Type 0} (f q n p : ℕ) (x : A) (b : Answer B) → refused n p ≡ unless f q (given x) → (unless f q b ≡ refused n p) × (p ≡ q)
@@ -119,30 +208,53 @@ refused-also f q n p x b e = go (eqb f 0) e
         (rw (i, j), j)
 
 module _ (r : List ℕ) (h : Head) where
-  pub starts-so : (ws : List ℕ) → (h .table ≡ pptt → Typed ws []) → Stands r h 28 (stateOf (h .table) []) ws
+  pub starts-so : (ws : List ℕ) → (h .table ≡ pptt → Typed ws []) → Stands r h 0 28 (stateOf (h .table) []) ws
   unfolding typesOf sizes
-  starts-so ws z = record { nodes = []; newer = 0; is = refl; short = front-short (h .table); typed = z; same = refl }
+  starts-so ws z = record { nodes = []; is = refl; short = front-short (h .table); knows = record { typed = z; begun = tt }; same = refl }
 
-  module _ (p : ℕ) (s : State) (ws : List ℕ) (w : Stands r h p s ws) where
+  module _ (q p : ℕ) (s : State) (ws : List ℕ) (w : Stands r h q p s ws) where
     pub sound : Sound s
     sound =
         let l : front (h .table) + sizes (w .nodes) ≤ limit = w .short in
         let f : length (w .nodes) ≤ sizes (w .nodes) = few-nodes (w .nodes) in
         rw (w .is) (record { short = l; few = omega arith })
 
-    pub ends : length r ≤ p → outlined (whole r h) ≡ given (h .table, s .length)
+    lacking-as : (o : Option Kind) → lacking (newest (w .nodes)) o ≡ pick (lacks (s .newest) o) 11 0
+    lacking-as o = rw (w .is) (lacks-as (view (w .nodes)) o)
+
+    pub ends : length r ≤ p → outlined (whole r h) ≡ endedWith s q
     unfolding cut run
-    ends l = rw (w .same, drop-of-length-le r l, w .is)
+    ends l = rw (w .same, drop-of-length-le r l, lacking-as none) (by (lacks (s .newest) none))
+      where
+        by : (x : Bool) → outlined (unless (pick x 11 0) q (given (means h (w .nodes)))) ≡ pick x (refused 11 q) (given (meant (s .table), s .length))
+        by true = refl
+        by false = rw (w .is, meant-named (h .table))
 
     module _ (l : p < length r) where
-      pub bad-kind : kindOf (h .table) (at r p) ≡ none → whole r h ≡ refused 2 p
+      -- what comes is no entry of the list that lacks one
+      pub incomplete : lacks (s .newest) (kindOf (h .table) (at r p)) ≡ true → whole r h ≡ refused 11 q
       unfolding cutAs run
-      bad-kind e = w .same ∙ rw (cut-at (h .table) r p l, e)
+      incomplete e = w .same ∙ rw (cut-at (h .table) r p l) (by (kindOf (h .table) (at r p)) e)
+        where
+          rest : Calls
+          rest = cut (h .table) 0 (p + 1 + skip (kindOf (h .table) (at r p))) (drop (p + 1 + skip (kindOf (h .table) (at r p))) r)
 
-      module _ (k : Kind) (e : kindOf (h .table) (at r p) ≡ some k) where
+          by : (o : Option Kind) → lacks (s .newest) o ≡ true → run h q (w .nodes) (cutAs o (drop (p + 1) r) p rest) ≡ refused 11 q
+          by none e = rw (lacking-as none, e)
+          by (some k) e = long (ltb (length (drop (p + 1) r)) (width (body k)))
+            where
+              long : (x : Bool) → run h q (w .nodes) (pick x (cutOff p k) (called p k (fields (body k) (drop (p + 1) r)) rest)) ≡ refused 11 q
+              long true = rw (lacking-as (some k), e)
+              long false = rw (lacking-as (some k), e)
+
+      pub bad-kind : kindOf (h .table) (at r p) ≡ none → lacks (s .newest) none ≡ false → whole r h ≡ refused 2 p
+      unfolding cutAs run
+      bad-kind e f = w .same ∙ rw (cut-at (h .table) r p l, e, lacking-as none, f)
+
+      module _ (k : Kind) (e : kindOf (h .table) (at r p) ≡ some k) (f : lacks (s .newest) (some k) ≡ false) where
         pub cut-off : length (drop (p + 1) r) < width (body k) → whole r h ≡ refused 3 p
         unfolding cutAs run
-        cut-off c = w .same ∙ rw (cut-at (h .table) r p l, e, lt-ltb _ _ c)
+        cut-off c = w .same ∙ rw (cut-at (h .table) r p l, e, lt-ltb _ _ c, lacking-as (some k), f)
 
         module _ (c : width (body k) ≤ length (drop (p + 1) r)) where
           vs : List ℕ
@@ -154,51 +266,55 @@ module _ (r : List ℕ) (h : Head) where
           place : ℕ
           place = p + faultAt n k (step k vs (w .nodes) .ranges)
 
-          called-at : whole r h ≡ unless n place (run h (since (w .nodes) (added k vs (w .nodes)) p (w .newer)) (added k vs (w .nodes)) (cut (h .table) 0 (p + 1 + width (body k)) (drop (p + 1 + width (body k)) r)))
+          called-at : whole r h ≡ unless n place (run h (since (w .nodes) (added k vs (w .nodes)) p q) (added k vs (w .nodes)) (cut (h .table) 0 (p + 1 + width (body k)) (drop (p + 1 + width (body k)) r)))
           unfolding cutAs run vs n place
-          called-at = w .same ∙ rw (cut-at (h .table) r p l, e, le-ltb _ _ c)
+          called-at = w .same ∙ rw (cut-at (h .table) r p l, e, le-ltb _ _ c, lacking-as (some k), f)
 
           module _ (x : Step) (d : TurnsWith ws k (drop (p + 1) r) s x) where
             turned : stepped p x ≡ unless n place (given (stateOf (h .table) (added k vs (w .nodes))))
             unfolding vs n place
-            turned = d (h .table) (w .nodes) p (w .is) (at r p) e (w .typed)
+            turned = d (h .table) (w .nodes) p (w .is) (at r p) e (w .knows)
 
             pub stops : (f : Refusal) → x ≡ Refused f → whole r h ≡ refused (number f) p
-            stops f q = called-at ∙ refused-also n place (number f) p _ _ (rw q at turned) .0
+            stops f i = called-at ∙ refused-also n place (number f) p _ _ (rw i at turned) .0
 
             pub stops-at : (by : ℕ) → x ≡ BadField by → whole r h ≡ refused 5 (p + by)
-            stops-at by q = called-at ∙ refused-also n place 5 (p + by) _ _ (rw q at turned) .0
+            stops-at by i = called-at ∙ refused-also n place 5 (p + by) _ _ (rw i at turned) .0
 
             -- a bad field is one of the record
             pub within : (by : ℕ) → x ≡ BadField by → by ≤ 1 + width (body k)
             unfolding place
-            within by q =
-                let i : p + by ≡ place = refused-also {B = ℕ} n place 5 (p + by) _ (given 0) (rw q at turned) .1 in
-                omega (arith, i, fault-within n k (step k vs (w .nodes) .ranges))
+            within by i =
+                let j : p + by ≡ place = refused-also {B = ℕ} n place 5 (p + by) _ (given 0) (rw i at turned) .1 in
+                omega (arith, j, fault-within n k (step k vs (w .nodes) .ranges))
 
-            pub goes : (s′ : State) → x ≡ Next s′ → Stands r h (p + 1 + width (body k)) s′ (noted k (s .nodes) ws)
+            pub goes : (s′ : State) → x ≡ Next s′ → Stands r h (pick (eqb (s′ .nodes) (s .nodes)) q p) (p + 1 + width (body k)) s′ (noted k (s .nodes) ws)
             unfolding vs n place
-            goes s′ q =
-                let (z, g) = unless-given n place (given (stateOf (h .table) (added k vs (w .nodes)))) (sym (rw q at turned)) in
+            goes s′ i =
+                let (z, g) = unless-given n place (given (stateOf (h .table) (added k vs (w .nodes)))) (sym (rw i at turned)) in
+                let is : s′ ≡ stateOf (h .table) (added k vs (w .nodes)) = cc in
                 let y = passed (h .table) (w .nodes) k vs z in
                 let l : sizes (w .nodes) ≤ limit = omega (arith, w .short) in
                 record {
                   nodes = added k vs (w .nodes);
-                  newer = since (w .nodes) (added k vs (w .nodes)) p (w .newer);
-                  is = cc;
+                  is = is;
                   short = y .short;
-                  typed = λ t. rw (w .is) (types-added (at r p) k vs (w .nodes) ws (rw t at e) (y .place) l (w .typed t));
-                  same = called-at ∙ rw z;
+                  knows =
+                      record {
+                        typed = λ t. rw (w .is) (types-added (at r p) k vs (w .nodes) ws (rw t at e) (y .place) l (w .knows .typed t));
+                        begun = begun-added k (drop (p + 1) r) (w .nodes) (w .knows .begun);
+                      };
+                  same = called-at ∙ rw (z, is, w .is);
                 }
 
         pub clear : k ≡ Cache → Clear ws (s .nodes)
-        clear q = rw (w .is) (next-clear ws (w .nodes) (omega (arith, w .short)) (w .typed (sym (kind-home (h .table) (at r p) Cache (rw q at e)))))
+        clear i = rw (w .is) (next-clear ws (w .nodes) (omega (arith, w .short)) (w .knows .typed (sym (kind-home (h .table) (at r p) Cache (rw i at e)))))
 
 pub cell-fits : (r : List ℕ) (p i t : ℕ) → goodCell r p i t ≡ true → p + 5 ≤ length r
 cell-fits r p i t good = leb-true (p + 5) (length r) (both-true (leb (p + 5) (length r)) _ (both-true (eqb (at r p) 52) _ good .1) .0)
 
 -- a good cell leaves the state as it is
-module _ (r : List ℕ) (h : Head) (p : ℕ) (s : State) (ws : List ℕ) (w : Stands r h p s ws) (i t : ℕ) (own : s .table ≡ Hmat) (behind : s .newest ≡ is.Matrix i t) (good : goodCell r p i t ≡ true) where
+module _ (r : List ℕ) (h : Head) (q p : ℕ) (s : State) (ws : List ℕ) (w : Stands r h q p s ws) (i t : ℕ) (own : s .table ≡ Hmat) (behind : s .newest ≡ is.Matrix i t) (good : goodCell r p i t ≡ true) where
   tests : (at r p ≡ 52) × (ltb (at r (p + 1)) i ≡ true) × (ltb (at r (p + 2)) t ≡ true)
   tests =
       let (a, x) = both-true (eqb (at r p) 52) _ good in
@@ -211,16 +327,16 @@ module _ (r : List ℕ) (h : Head) (p : ℕ) (s : State) (ws : List ℕ) (w : St
 
   turns : TurnsWith ws Cell (drop (p + 1) r) s (Next s)
   unfolding body step refsGood
-  turns u ns q e b z y =
+  turns u ns m e b z y =
       let two : p + 1 + 1 ≡ p + 2 = omega arith in
-      sym (set-turn u s q (drop (p + 1) r) i t Cell _ _ _ (sound r h p s ws w) (λ ms. refl) (λ ok vs. refl) ns e behind
+      sym (set-turn u s m (drop (p + 1) r) i t Cell _ _ _ (sound r h q p s ws w) (λ ms. refl) (λ ok vs. refl) ns e behind
       ∙ rw (fields-at asIs (body Cell) r (p + 1), two, ← value-byte r (p + 1), ← value-byte r (p + 2), tests .1, tests .2))
 
-  pub cell-passed : Stands r h (p + 1 + 4) s ws
+  pub cell-passed : Stands r h q (p + 1 + 4) s ws
   unfolding width body
   cell-passed =
       let l : p + 5 ≤ length r = cell-fits r p i t good in
-      goes r h p s ws w (omega arith) Cell named (rw length-drop (omega arith)) (Next s) turns s refl
+      rw (eq-eqb (s .nodes) (s .nodes) refl) at (goes r h q p s ws w (omega arith) Cell named (rw behind refl) (rw length-drop (omega arith)) (Next s) turns s refl)
 
 -- ---- the head
 

@@ -6,7 +6,7 @@ use Rattle.format.specs.Build.{lengthOf}
 use Rattle.format.specs.Recipe.{Meaning}
 use Rattle.header.specs.Header.{meant}
 use Rattle.recipe.specs.declared.Refusal.{Refusal}
-use Rattle.recipe.specs.declared.Refusal.the-variants.{NoHead, BadKind, Cut, Misplaced, BadField, Forward, WrongKind, FullNode, TooLong}
+use Rattle.recipe.specs.declared.Refusal.the-variants.{NoHead, BadKind, Cut, Misplaced, BadField, Forward, WrongKind, FullNode, TooLong, Incomplete}
 use Rattle.recipe.specs.declared.Checked.{Checked}
 use Rattle.recipe.specs.declared.Checked.the-variants.{Good, Refused}
 
@@ -20,6 +20,7 @@ number Forward = 6
 number WrongKind = 10
 number FullNode = 7
 number TooLong = 8
+number Incomplete = 11
 
 abbrev pub shown : Checked → Answer (Table × ℕ)
 shown (Good t n) = given (meant t, n)

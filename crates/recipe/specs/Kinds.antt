@@ -10,7 +10,7 @@ use Rattle.format.specs.Kind as format
 use Rattle.recipe.specs.declared.Reference.{Reference}
 use Rattle.recipe.specs.declared.Reference.the-variants as names
 use Rattle.recipe.specs.declared.Kind.{Kind}
-use Rattle.recipe.specs.declared.Kind.the-variants.{Processor, Resource, Cache, Memory, Acpi, Pci, Rintc, Domain, Matrix, Initiator, Target, Cell, Side, Handle}
+use Rattle.recipe.specs.declared.Kind.the-variants.{Processor, Resource, Cache, Memory, Acpi, Pci, Rintc, Domain, Matrix, Initiator, Target, Cell, Side, Handle, Bridge, Window, WindowTarget, Xor, Map}
 use Rattle.recipe.specs.declared.Named.{Named}
 use Rattle.recipe.specs.declared.Named.the-variants.{As, Nothing}
 
@@ -29,6 +29,11 @@ meantKind Target = format.Target
 meantKind Cell = format.Cell
 meantKind Side = format.Side
 meantKind Handle = format.Handle
+meantKind Bridge = format.Bridge
+meantKind Window = format.Window
+meantKind WindowTarget = format.WindowTarget
+meantKind Xor = format.Xor
+meantKind Map = format.Map
 
 abbrev pub named : Named → Option format.Kind
 named (As k) = some (meantKind k)
@@ -50,6 +55,11 @@ naming format.Target vs = names.Nothing
 naming format.Cell vs = names.Nothing
 naming format.Side vs = names.Nothing
 naming format.Handle vs = names.Nothing
+naming format.Bridge vs = names.Nothing
+naming format.Window vs = names.Nothing
+naming format.WindowTarget vs = names.Nothing
+naming format.Xor vs = names.Nothing
+naming format.Map vs = names.Nothing
 
 -- of a record whose body the bytes begin with
 abbrev pub referenceOf : format.Kind → List ℕ → Reference

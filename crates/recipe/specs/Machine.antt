@@ -2,18 +2,18 @@
 use mathlib.Core.Path.{_≡_}
 use Prim.Native.Nat.{ℕ, _+_, _-_, _*_, _/_, _%_, _^_, _≤_, _<_}
 use mathlib.Core.List.{List, [], _∷_, _++_}
-use mathlib.Core.Bool.{Bool}
-use mathlib.Core.Option.{some}
+use mathlib.Core.Bool.{Bool, false, not}
+use mathlib.Core.Option.{Option, none, some}
 use lib.ListN.{length, take, drop, set}
 use lib.Dec.{eqb, ltb}
-use Rattle.format.specs.Bytes.{pick, at, Answer, refused, given, unless}
+use Rattle.format.specs.Bytes.{pick, both, at, Answer, refused, given, unless}
 use Rattle.format.specs.Layout.{fields}
 use Rattle.format.specs.Table.{Table, front, limit, pptt, Head}
 use Rattle.format.specs.Form.{typeOf}
 use Rattle.format.specs.Node.{Node, sizes}
-use Rattle.format.specs.Kind.{Kind, Cache, kindNumber, kindOf, body}
-use Rattle.format.specs.Recipe.{Newest, aProcessor, aMatrix, aSide, other, newest, step, added, fault, faultAt, cut, Meaning, run}
-use Rattle.header.specs.Header.{tableNamed}
+use Rattle.format.specs.Kind.{Kind, Processor, Resource, Cache, Memory, Acpi, Pci, Rintc, Domain, Matrix, Initiator, Target, Cell, Side, Handle, Bridge, Window, WindowTarget, Xor, Map, kindNumber, kindOf, isKind, body}
+use Rattle.format.specs.Recipe.{Newest, aList, aMatrix, other, newest, step, added, fault, faultAt, cut, Meaning, run}
+use Rattle.header.specs.Header.{meant, tableNamed}
 use Rattle.recipe.specs.declared.Newest as kept
 use Rattle.recipe.specs.declared.Newest.the-variants as is
 use Rattle.recipe.specs.declared.State.{State}
@@ -25,12 +25,42 @@ use Rattle.recipe.specs.Kinds.{referenceOf, ordinalIn}
 
 -- ---- the state
 
+-- a node with a list, by the kind of its list's records: how many it needs, and has
+abbrev pub listKept : Kind → ℕ → ℕ → kept.Newest
+listKept Processor needs n = is.Other
+listKept Resource needs n = is.Processor n
+listKept Cache needs n = is.Other
+listKept Memory needs n = is.Other
+listKept Acpi needs n = is.Other
+listKept Pci needs n = is.Other
+listKept Rintc needs n = is.Other
+listKept Domain needs n = is.Other
+listKept Matrix needs n = is.Other
+listKept Initiator needs n = is.Other
+listKept Target needs n = is.Other
+listKept Cell needs n = is.Other
+listKept Side needs n = is.Other
+listKept Handle needs n = is.Side n
+listKept Bridge needs n = is.Other
+listKept Window needs n = is.Other
+listKept WindowTarget needs n = is.Window needs n
+listKept Xor needs n = is.Other
+listKept Map needs n = is.Xor n
+
 -- the newest node without its fields
 abbrev pub newestKept : Newest → kept.Newest
-newestKept (aProcessor n us ns) = is.Processor n
+newestKept (aList k needs most n f us ns) = listKept k needs n
 newestKept (aMatrix i t us ns) = is.Matrix i t
-newestKept (aSide n us ns) = is.Side n
 newestKept other = is.Other
+
+-- it lacks entries, and what comes is none; o: the kind that comes, if any
+abbrev pub lacks : kept.Newest → Option Kind → Bool
+lacks (is.Processor n) o = false
+lacks (is.Matrix i t) o = false
+lacks (is.Side n) o = false
+lacks (is.Window needs n) o = both (ltb n needs) (not (isKind WindowTarget o))
+lacks (is.Xor n) o = false
+lacks is.Other o = false
 
 abbrev pub stateOf : Table → List Node → State
 stateOf t ns = record { table = tableNamed t; nodes = length ns; length = front t + sizes ns; newest = newestKept (newest ns) }
@@ -39,6 +69,16 @@ stateOf t ns = record { table = tableNamed t; nodes = length ns; length = front 
 pub record Sound (s : State) : Type 0 where
   pub short : s .length ≤ limit
   pub few : s .nodes ≤ s .length
+
+-- a window has its seven fields at least, targets or not
+abbrev pub Begun : Newest → Type 0
+Begun (aList k needs most n f us ns) = k ≡ WindowTarget → 7 ≤ length us
+Begun (aMatrix i t us ns) = Unit
+Begun other = Unit
+
+-- the answer at the end: the table and its length, unless the newest node, whose record is at q, lacks entries
+abbrev pub endedWith : State → ℕ → Answer (Table × ℕ)
+endedWith s q = pick (lacks (s .newest) none) (refused 11 q) (given (meant (s .table), s .length))
 
 -- the state with a longer table, unless that is too long
 abbrev pub grown : State → ℕ → ℕ → kept.Newest → Step
@@ -110,10 +150,19 @@ turn t ns k bs p =
 abbrev pub Turns : Kind → List ℕ → State → Step → Type 0
 Turns k bs s r = (t : Table) (ns : List Node) (p : ℕ) → s ≡ stateOf t ns → stepped p r ≡ turn t ns k bs p
 
--- where the kind is one of the table's, and the words hold the types of a PPTT's nodes
+-- where a window has its fields
+abbrev pub TurnsBegun : Kind → List ℕ → State → Step → Type 0
+TurnsBegun k bs s r = (t : Table) (ns : List Node) (p : ℕ) → s ≡ stateOf t ns → Begun (newest ns) → stepped p r ≡ turn t ns k bs p
+
+-- what the pass knows of the nodes: the words hold the types of a PPTT's, and a window has its fields
+pub record Knows (ws : List ℕ) (t : Table) (ns : List Node) : Type 0 where
+  pub typed : t ≡ pptt → Typed ws (typesOf ns)
+  pub begun : Begun (newest ns)
+
+-- where the kind is one of the table's, and the pass knows this
 abbrev pub TurnsWith : List ℕ → Kind → List ℕ → State → Step → Type 0
 TurnsWith ws k bs s r =
-    (t : Table) (ns : List Node) (p : ℕ) → s ≡ stateOf t ns → (b : ℕ) → kindOf t b ≡ some k → (t ≡ pptt → Typed ws (typesOf ns)) → stepped p r ≡ turn t ns k bs p
+    (t : Table) (ns : List Node) (p : ℕ) → s ≡ stateOf t ns → (b : ℕ) → kindOf t b ≡ some k → Knows ws t ns → stepped p r ≡ turn t ns k bs p
 
 -- ---- all records
 
@@ -121,11 +170,10 @@ TurnsWith ws k bs s r =
 abbrev pub whole : List ℕ → Head → Answer Meaning
 whole r h = run h 0 [] (cut (h .table) 0 28 (drop 28 r))
 
--- what the state at a place stands for, and the words
-pub record Stands (r : List ℕ) (h : Head) (p : ℕ) (s : State) (ws : List ℕ) : Type 0 where
+-- what the state at a place stands for, and the words; q: the place of the newest node's record
+pub record Stands (r : List ℕ) (h : Head) (q p : ℕ) (s : State) (ws : List ℕ) : Type 0 where
   pub nodes : List Node
-  pub newer : ℕ  -- the place of the newest node's record
   pub is : s ≡ stateOf (h .table) nodes
   pub short : front (h .table) + sizes nodes ≤ limit
-  pub typed : h .table ≡ pptt → Typed ws (typesOf nodes)
-  pub same : whole r h ≡ run h newer nodes (cut (h .table) 0 p (drop p r))
+  pub knows : Knows ws (h .table) nodes
+  pub same : whole r h ≡ run h q nodes (cut (h .table) 0 p (drop p r))

@@ -3,6 +3,7 @@ ghost use mathlib.Core.Path.{_≡_};
 ghost use Prim.Native.Nat.{ℕ, _+_, _≤_, _<_};
 ghost use mathlib.Core.List.{List, []};
 ghost use mathlib.Core.Bool.{true};
+ghost use mathlib.Core.Option.{none};
 ghost use lib.ListN.{length, drop};
 ghost use lib.Dec.{eqb};
 ghost use Rattle.format.specs.Bytes.{pick, part};
@@ -14,7 +15,12 @@ ghost use Rattle.format.specs.Kind as format;
 ghost use Rattle.header.specs.Header.{meant};
 ghost use Rattle.recipe.specs.Kinds.{meantKind, named, referenceOf};
 ghost use Rattle.recipe.specs.Answers.{shown, outlined};
-ghost use Rattle.recipe.specs.Machine.{stateOf, Sound, grown, madeBy, bitAt, Clear, noted, ofType, Typed, Turns, TurnsWith, Stands};
+ghost use Rattle.recipe.specs.Machine.{stateOf, Sound, lacks, endedWith, grown, madeBy, bitAt, Clear, noted, ofType, Typed, Turns, TurnsBegun, TurnsWith, Stands};
+use cedt::CxlFixedMemory;
+use cedt::CxlHostBridge;
+use cedt::CxlTarget;
+use cedt::XorInterleaveMath;
+use cedt::XorMap;
 use header::Table;
 use header::TableHeader;
 use hmat::Cell;
@@ -55,6 +61,11 @@ pub enum Kind {
     Cell,
     Side,
     Handle,
+    Bridge,
+    Window,
+    WindowTarget,
+    Xor,
+    Map,
 }
 
 // What a kind byte stands for.
@@ -90,6 +101,11 @@ impl Kind {
             Kind::Cell => Cell::BODY,
             Kind::Side => MemorySideCache::BODY,
             Kind::Handle => SmbiosHandle::BODY,
+            Kind::Bridge => CxlHostBridge::BODY,
+            Kind::Window => CxlFixedMemory::BODY,
+            Kind::WindowTarget => CxlTarget::BODY,
+            Kind::Xor => XorInterleaveMath::BODY,
+            Kind::Map => XorMap::BODY,
         }
     }
 
@@ -115,6 +131,11 @@ impl Kind {
             Kind::Cell => Reference::Nothing,
             Kind::Side => Reference::Nothing,
             Kind::Handle => Reference::Nothing,
+            Kind::Bridge => Reference::Nothing,
+            Kind::Window => Reference::Nothing,
+            Kind::WindowTarget => Reference::Nothing,
+            Kind::Xor => Reference::Nothing,
+            Kind::Map => Reference::Nothing,
         }
     }
 }
@@ -131,6 +152,7 @@ fn of_pptt(table: Table, byte: u8) -> Named
         },
         Table::Srat => Named::Nothing,
         Table::Hmat => Named::Nothing,
+        Table::Cedt => Named::Nothing,
     }
 }
 
@@ -147,6 +169,7 @@ fn of_srat(table: Table, byte: u8) -> Named
             _ => Named::As(Kind::Rintc),
         },
         Table::Hmat => Named::Nothing,
+        Table::Cedt => Named::Nothing,
     }
 }
 
@@ -166,6 +189,25 @@ fn of_hmat(table: Table, byte: u8) -> Named
             MemorySideCache::KIND => Named::As(Kind::Side),
             _ => Named::As(Kind::Handle),
         },
+        Table::Cedt => Named::Nothing,
+    }
+}
+
+fn of_cedt(table: Table, byte: u8) -> Named
+    requires { ⌜ (kindNumber format.Bridge ≤ byte) × (byte ≤ kindNumber format.Map) ⌝ }
+    ensures { λ r. ⌜ named r ≡ kindOf (meant table) byte ⌝ }
+{
+    match table {
+        Table::Pptt => Named::Nothing,
+        Table::Srat => Named::Nothing,
+        Table::Hmat => Named::Nothing,
+        Table::Cedt => match byte {
+            CxlHostBridge::KIND => Named::As(Kind::Bridge),
+            CxlFixedMemory::KIND => Named::As(Kind::Window),
+            CxlTarget::KIND => Named::As(Kind::WindowTarget),
+            XorInterleaveMath::KIND => Named::As(Kind::Xor),
+            _ => Named::As(Kind::Map),
+        },
     }
 }
 
@@ -177,6 +219,7 @@ pub fn kind_of(table: Table, byte: u8) -> Named
         ProcessorNode::KIND..=CacheNode::KIND => of_pptt(table, byte),
         MemoryAffinity::KIND..=RintcAffinity::KIND => of_srat(table, byte),
         MemoryProximityDomain::KIND..=SmbiosHandle::KIND => of_hmat(table, byte),
+        CxlHostBridge::KIND..=XorMap::KIND => of_cedt(table, byte),
         _ => Named::Nothing,
     }
 }
@@ -193,6 +236,7 @@ pub enum Refusal {
     WrongKind,
     FullNode,
     TooLong,
+    Incomplete,
 }
 
 // The table that a recipe gives and its length, or a refusal and its place.
@@ -208,7 +252,31 @@ enum Newest {
     Processor(u8),
     Matrix(u32, u32),
     Side(u16),
+    // how many targets it needs, and has
+    Window(u8, u8),
+    Xor(u8),
     Other,
+}
+
+impl Newest {
+    // It lacks entries, and what comes is none.
+    fn lacks(self, next: Named) -> bool
+        ensures { λ r. ⌜ r ≡ lacks self (named next) ⌝ }
+    {
+        let Newest::Window(needs, has) = self else {
+            return false;
+        };
+        if needs <= has {
+            return false;
+        }
+        let Named::As(kind) = next else {
+            return true;
+        };
+        let Kind::WindowTarget = kind else {
+            return true;
+        };
+        false
+    }
 }
 
 // What the pass keeps of the nodes so far.
@@ -266,6 +334,28 @@ impl State {
             return Step::BadField(bad);
         }
         self.grown(self.nodes + 1, len, newest)
+    }
+
+    // The place of the newest node's record: at, if there are more nodes than before, else where it was.
+    fn newer(self, before: usize, at: usize, made: usize) -> usize
+        ensures { λ r. ⌜ r ≡ pick (eqb (self .nodes) before) made at ⌝ }
+    {
+        if self.nodes == before {
+            return made;
+        }
+        at
+    }
+
+    // The answer at the end of a recipe; made: the place of the newest node's record.
+    fn ended(self, made: usize) -> Checked
+        ensures { λ r. ⌜ shown r ≡ endedWith self made ⌝ }
+    {
+        let newest = self.newest;
+        if newest.lacks(Named::Nothing) {
+            return Checked::Refused(Refusal::Incomplete, made);
+        }
+        let table = self.table;
+        Checked::Good(table, self.length)
     }
 }
 
@@ -459,6 +549,49 @@ fn handle(st: State) -> Step
     st.grown(st.nodes, SmbiosHandle::LEN, Newest::Side(n + 1))
 }
 
+// ---- CEDT
+
+// A window counts whole, its targets included.
+fn window(bytes: &[u8], st: State) -> Step
+    requires { ⌜ Sound st ⌝ }
+    ensures { λ r. ⌜ Turns format.Window (now (bytes .entry)) st r ⌝ }
+{
+    let node = CxlFixedMemory::from_body(bytes);
+    st.made(
+        node.bad_field(),
+        node.len(),
+        Newest::Window(node.num_interleaved_ways(), 0),
+    )
+}
+
+fn window_target(st: State) -> Step
+    requires { ⌜ Sound st ⌝ }
+    ensures { λ r. ⌜ ((bs : List ℕ) → TurnsBegun format.WindowTarget bs st r) ⌝ }
+{
+    let newest = st.newest;
+    let Newest::Window(needs, has) = newest else {
+        return Step::Refused(Refusal::Misplaced);
+    };
+    if needs <= has {
+        return Step::Refused(Refusal::FullNode);
+    }
+    st.grown(st.nodes, 0, Newest::Window(needs, has + 1))
+}
+
+fn map(st: State) -> Step
+    requires { ⌜ Sound st ⌝ }
+    ensures { λ r. ⌜ ((bs : List ℕ) → Turns format.Map bs st r) ⌝ }
+{
+    let newest = st.newest;
+    let Newest::Xor(n) = newest else {
+        return Step::Refused(Refusal::Misplaced);
+    };
+    if XorInterleaveMath::MAX_XORMAPS <= n {
+        return Step::Refused(Refusal::FullNode);
+    }
+    st.grown(st.nodes, XorMap::LEN, Newest::Xor(n + 1))
+}
+
 // ---- the pass
 
 // One record, whose body the bytes begin with: each body is a window of its own length.
@@ -501,12 +634,25 @@ fn judge(types: &[u64], kind: Kind, bytes: &[u8], st: State) -> Step
             Newest::Side(0),
         ),
         Kind::Handle => handle(st),
+        Kind::Bridge => st.made(
+            CxlHostBridge::from_body(&bytes[..CxlHostBridge::BODY]).bad_field(),
+            CxlHostBridge::LEN,
+            Newest::Other,
+        ),
+        Kind::Window => window(&bytes[..CxlFixedMemory::BODY], st),
+        Kind::WindowTarget => window_target(st),
+        Kind::Xor => st.made(
+            XorInterleaveMath::from_body(&bytes[..XorInterleaveMath::BODY]).bad_field(),
+            XorInterleaveMath::LEN,
+            Newest::Xor(0),
+        ),
+        Kind::Map => map(st),
     }
 }
 
 // The place behind the good cells that follow: they leave the state as it is.
 fn past_cells(recipe: &[u8], from: usize, st: State) -> usize
-    ensures { λ r. ⌜ (from ≤ r) × ((h : Head) (ws : List ℕ) → Stands (now (recipe .entry)) h from st ws → Stands (now (recipe .entry)) h r st ws) ⌝ }
+    ensures { λ r. ⌜ (from ≤ r) × ((h : Head) (made : ℕ) (ws : List ℕ) → Stands (now (recipe .entry)) h made from st ws → Stands (now (recipe .entry)) h made r st ws) ⌝ }
 {
     let table = st.table;
     let Table::Hmat = table else {
@@ -529,9 +675,15 @@ fn walk(recipe: &[u8], table: Table, types: &mut [u64]) -> Checked
     ensures { λ r. ⌜ shown r ≡ outlined (run (headOf (meant table) (part (now (recipe .entry)) 2 26)) 0 [] (cut (meant table) 0 28 (drop 28 (now (recipe .entry))))) ⌝ }
 {
     let mut at = HEAD_LEN;
+    let mut made = 0;
     let mut st = State::new(table);
     while at < recipe.len() {
-        let Named::As(kind) = kind_of(table, recipe[at]) else {
+        let named = kind_of(table, recipe[at]);
+        let newest = st.newest;
+        if newest.lacks(named) {
+            return Checked::Refused(Refusal::Incomplete, made);
+        }
+        let Named::As(kind) = named else {
             return Checked::Refused(Refusal::BadKind, at);
         };
         let n = kind.body_len();
@@ -543,6 +695,7 @@ fn walk(recipe: &[u8], table: Table, types: &mut [u64]) -> Checked
         match judge(types, kind, bytes, st) {
             Step::Next(more) => {
                 note_type(types, kind, st.nodes);
+                made = more.newer(st.nodes, at, made);
                 st = more;
                 at = past_cells(recipe, end, more);
             }
@@ -554,7 +707,7 @@ fn walk(recipe: &[u8], table: Table, types: &mut [u64]) -> Checked
             }
         }
     }
-    Checked::Good(table, st.length)
+    st.ended(made)
 }
 
 // Judges a whole recipe.
@@ -574,6 +727,7 @@ pub fn check(recipe: &[u8]) -> Checked
         }
         Table::SRAT_CODE => walk(recipe, Table::Srat, &mut [0u64; 1]),
         Table::HMAT_CODE => walk(recipe, Table::Hmat, &mut [0u64; 1]),
+        Table::CEDT_CODE => walk(recipe, Table::Cedt, &mut [0u64; 1]),
         _ => Checked::Refused(Refusal::BadField, CODE_AT),
     }
 }

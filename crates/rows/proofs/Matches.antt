@@ -6,8 +6,8 @@ use mathlib.Core.Bool.{Bool}
 use mathlib.Core.Option.{Option, none, some}
 use borrow.Author.Tests.{ne-eqb}
 use Rattle.format.specs.Bytes.{pick, value, part}
-use Rattle.format.specs.Table.{Table, pptt, srat, hmat, revision, frame}
-use Rattle.format.specs.Row.{processors, caches, memories, initiators, rintcs, domains, matrices, sides, home, rowType, column, matches, rowOf, known}
+use Rattle.format.specs.Table.{Table, pptt, srat, hmat, cedt, revision, frame}
+use Rattle.format.specs.Row.{processors, caches, memories, initiators, rintcs, domains, matrices, sides, bridges, windows, xors, home, rowType, column, matches, rowOf, known}
 use Rattle.format.specs.Row as format
 use Rattle.format.specs.Read.{typeIn}
 use Rattle.rows.specs.Rows.{knowsAs}
@@ -17,6 +17,7 @@ unfolding rowOf matches
 other-revision pptt {rev} bs h = rw (ne-eqb rev 3 h)
 other-revision srat {rev} bs h = rw (ne-eqb rev 3 h)
 other-revision hmat {rev} bs h = rw (ne-eqb rev 1 h)
+other-revision cedt {rev} bs h = rw (ne-eqb rev 1 h)
 
 by-type : (r : format.Row) (bs : List ℕ) → rowOf (home r) (revision (home r)) (rowType r) bs ≡ pick (column r bs) (some r) none
 unfolding rowOf matches
@@ -28,6 +29,9 @@ by-type rintcs bs = refl
 by-type domains bs = refl
 by-type matrices bs = refl
 by-type sides bs = refl
+by-type bridges bs = refl
+by-type windows bs = refl
+by-type xors bs = refl
 
 -- a record with a row's revision and type, x, is of that row if its Length column says so
 pub by-column : (r : format.Row) {rev x : ℕ} {b : Bool} (bs : List ℕ) → rev ≡ revision (home r) → x ≡ value (part bs 0 (frame (home r) .type)) → x ≡ rowType r → b ≡ column r bs

@@ -2,11 +2,14 @@
 ghost use mathlib.Core.Path.{_≡_};
 ghost use mathlib.Core.Option.{none};
 ghost use Rattle.format.specs.Bytes.{pick};
-ghost use Rattle.format.specs.Table.{pptt, srat, hmat};
+ghost use Rattle.format.specs.Table.{pptt, srat, hmat, cedt};
 ghost use Rattle.format.specs.Row.{rowOf, known};
 ghost use Rattle.format.specs.Read.{typeIn, partOf};
 ghost use Rattle.header.specs.Header.{meant};
 ghost use Rattle.rows.specs.Rows.{rowMeant, soundAs, knowsAs};
+use cedt::CxlFixedMemory;
+use cedt::CxlHostBridge;
+use cedt::XorInterleaveMath;
 use header::Table;
 use hmat::MemoryProximityDomain;
 use hmat::MemorySideCache;
@@ -27,6 +30,9 @@ pub enum Row {
     Domains,
     Matrices,
     Sides,
+    Bridges,
+    Windows,
+    Xors,
     Unknown,
 }
 
@@ -47,6 +53,12 @@ impl Row {
     const MATRICES_BIT: u32 = 64;
 
     const SIDES_BIT: u32 = 128;
+
+    const BRIDGES_BIT: u32 = 256;
+
+    const WINDOWS_BIT: u32 = 512;
+
+    const XORS_BIT: u32 = 1024;
 
     // The row, if a test says so.
     fn when(self, test: bool) -> Self
@@ -71,6 +83,9 @@ impl Row {
             Row::Domains => mask / Row::DOMAINS_BIT % 2 == 1,
             Row::Matrices => mask / Row::MATRICES_BIT % 2 == 1,
             Row::Sides => mask / Row::SIDES_BIT % 2 == 1,
+            Row::Bridges => mask / Row::BRIDGES_BIT % 2 == 1,
+            Row::Windows => mask / Row::WINDOWS_BIT % 2 == 1,
+            Row::Xors => mask / Row::XORS_BIT % 2 == 1,
             Row::Unknown => false,
         }
     }
@@ -119,6 +134,20 @@ fn hmat_row(revision: u8, body: &[u8]) -> Row
     }
 }
 
+fn cedt_row(revision: u8, body: &[u8]) -> Row
+    ensures { λ r. ⌜ rowMeant r ≡ rowOf cedt revision (typeIn cedt (now (body .entry))) (now (body .entry)) ⌝ }
+{
+    if revision != Table::CEDT_REVISION {
+        return Row::Unknown;
+    }
+    match frames::short_type(body) {
+        CxlHostBridge::TYPE => Row::Bridges.when(CxlHostBridge::fits(body)),
+        CxlFixedMemory::TYPE => Row::Windows.when(CxlFixedMemory::fits(body)),
+        XorInterleaveMath::TYPE => Row::Xors.when(XorInterleaveMath::fits(body)),
+        _ => Row::Unknown,
+    }
+}
+
 // The row that a record of a table of this revision matches.
 pub fn row_of(table: Table, revision: u8, body: &[u8]) -> Row
     ensures { λ r. ⌜ rowMeant r ≡ rowOf (meant table) revision (typeIn (meant table) (now (body .entry))) (now (body .entry)) ⌝ }
@@ -127,6 +156,7 @@ pub fn row_of(table: Table, revision: u8, body: &[u8]) -> Row
         Table::Pptt => pptt_row(revision, body),
         Table::Srat => srat_row(revision, body),
         Table::Hmat => hmat_row(revision, body),
+        Table::Cedt => cedt_row(revision, body),
     }
 }
 
@@ -152,6 +182,9 @@ pub fn sound(row: Row, body: &[u8]) -> bool
         Row::Domains => MemoryProximityDomain::is_fixed(body),
         Row::Matrices => SystemLocality::is_sound(body),
         Row::Sides => MemorySideCache::is_sound(body),
+        Row::Bridges => CxlHostBridge::is_sound(body),
+        Row::Windows => CxlFixedMemory::is_sound(body),
+        Row::Xors => XorInterleaveMath::is_sound(body),
         Row::Unknown => true,
     }
 }
@@ -164,11 +197,14 @@ pub fn part<'a>(row: Row, body: &'a [u8]) -> &'a [u8]
         Row::Processors => field::rest(body, ProcessorNode::LEN),
         Row::Matrices => field::rest(body, SystemLocality::LEN),
         Row::Sides => field::rest(body, MemorySideCache::LEN),
+        Row::Windows => field::rest(body, CxlFixedMemory::LEN),
+        Row::Xors => field::rest(body, XorInterleaveMath::LEN),
         Row::Caches => &body[..0],
         Row::Memories => &body[..0],
         Row::Initiators => &body[..0],
         Row::Rintcs => &body[..0],
         Row::Domains => &body[..0],
+        Row::Bridges => &body[..0],
         Row::Unknown => body,
     }
 }

@@ -4,6 +4,7 @@ ghost use Prim.Native.Nat.{_+_, _^_, _<_};
 mod affinities;
 mod localities;
 mod nodes;
+mod windows;
 mod words;
 
 use frames::Refusal;
@@ -59,6 +60,9 @@ fn row(node: Node) {
         Node::Domain(_) => words::say(b"domain\n"),
         Node::Matrix(_) => words::say(b"matrix\n"),
         Node::Side(_) => words::say(b"side cache\n"),
+        Node::Bridge(_) => words::say(b"CXL host bridge\n"),
+        Node::Window(_) => words::say(b"CXL window\n"),
+        Node::Xor(_) => words::say(b"XOR maths\n"),
         Node::Unknown => words::say(b"unknown\n"),
     }
 }
@@ -74,6 +78,9 @@ fn fields(table: &[u8], place: usize, node: Node) {
         Node::Domain(n) => localities::domain(n),
         Node::Matrix(n) => localities::matrix(table, place, n),
         Node::Side(n) => localities::side(table, place, n),
+        Node::Bridge(n) => windows::bridge(n),
+        Node::Window(n) => windows::window(table, place, n),
+        Node::Xor(n) => windows::maths(table, place, n),
         Node::Unknown => words::bytes(read::part_at(table, EVERY, place)),
     }
 }

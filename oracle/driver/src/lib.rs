@@ -1,4 +1,5 @@
 //! The table that acpi_tables makes of a recipe, by the crate's own calls. The recipe is one that builds: it is not judged here.
+use acpi_tables::cedt::{self, CxlFixedMemory, CxlHostBridge, XorInterleaveMath, CEDT};
 use acpi_tables::hmat::{self, MemoryProximityDomain, MemorySideCache, SystemLocality, HMAT};
 use acpi_tables::pptt::{self, CacheHandle, CacheNodeBuilder, ProcessorHandle, ProcessorNode, PPTT};
 use acpi_tables::srat::{GenericInitiator, Handle, MemoryAffinity, RintcAffinity, SRAT};
@@ -275,6 +276,96 @@ fn build_hmat(r: &mut Records, id: [u8; 6], table: [u8; 8], revision: u32, sink:
     out.to_aml_bytes(sink);
 }
 
+fn bridge(r: &mut Records) -> CxlHostBridge {
+    let (uid, version, base) = (r.number(4) as u32, r.number(1), r.number(8));
+    let version = match version {
+        0 => cedt::CxlVersion::Cxl1_1,
+        _ => cedt::CxlVersion::Cxl2,
+    };
+    CxlHostBridge::new(uid, version, base)
+}
+
+fn granularity(code: u64) -> cedt::InterleaveGranularity {
+    use cedt::InterleaveGranularity::*;
+    match code {
+        0 => Granularity256b,
+        1 => Granularity512b,
+        2 => Granularity1kb,
+        3 => Granularity2kb,
+        4 => Granularity4kb,
+        5 => Granularity8kb,
+        _ => Granularity16kb,
+    }
+}
+
+fn ways(code: u64) -> cedt::InterleaveWays {
+    use cedt::InterleaveWays::*;
+    match code {
+        0 => Ways1,
+        1 => Ways2,
+        2 => Ways4,
+        3 => Ways8,
+        4 => Ways16,
+        8 => Ways3,
+        9 => Ways6,
+        _ => Ways12,
+    }
+}
+
+fn restricted(mut node: CxlFixedMemory, restrictions: u64) -> CxlFixedMemory {
+    for bit in 0..5 {
+        if restrictions >> bit & 1 == 1 {
+            node = match bit {
+                0 => node.cxl_type_2_memory(),
+                1 => node.cxl_type_3_memory(),
+                2 => node.volatile(),
+                3 => node.persistent(),
+                _ => node.fixed_configuration(),
+            };
+        }
+    }
+    node
+}
+
+fn window(r: &mut Records) -> CxlFixedMemory {
+    let (base, size) = (r.number(8), r.number(8));
+    let ways = ways(r.number(1));
+    let arithmetic = match r.number(1) {
+        0 => cedt::InterleaveArithmetic::Modulo,
+        _ => cedt::InterleaveArithmetic::ModuloXor,
+    };
+    let granularity = granularity(r.number(1));
+    let restrictions = r.number(1);
+    let mut node = restricted(CxlFixedMemory::new(base, size, arithmetic, granularity, ways, r.number(2) as u16), restrictions);
+    while r.kind() == Some(66) {
+        r.at += 1;
+        node.add_target(r.array());
+    }
+    node
+}
+
+fn maths(r: &mut Records) -> XorInterleaveMath {
+    let mut node = XorInterleaveMath::new(granularity(r.number(1)));
+    while r.kind() == Some(68) {
+        r.at += 1;
+        node.add_xormap(r.number(8));
+    }
+    node
+}
+
+fn build_cedt(r: &mut Records, id: [u8; 6], table: [u8; 8], revision: u32, sink: &mut Vec<u8>) {
+    let mut out = CEDT::new(id, table, revision);
+    while let Some(kind) = r.kind() {
+        r.at += 1;
+        match kind {
+            64 => out.add_host_bridge(bridge(r)),
+            65 => out.add_fixed_memory(window(r)),
+            _ => out.add_xor_interleave_math(maths(r)),
+        }
+    }
+    out.to_aml_bytes(sink);
+}
+
 /// The crate's table of a recipe; it panics where the crate does.
 pub fn table(recipe: &[u8]) -> Vec<u8> {
     let mut r = Records { bytes: recipe, at: 1 };
@@ -285,7 +376,8 @@ pub fn table(recipe: &[u8]) -> Vec<u8> {
     match code {
         0 => build_pptt(&mut r, id, name, revision, &mut sink),
         1 => build_srat(&mut r, id, name, revision, &mut sink),
-        _ => build_hmat(&mut r, id, name, revision, &mut sink),
+        2 => build_hmat(&mut r, id, name, revision, &mut sink),
+        _ => build_cedt(&mut r, id, name, revision, &mut sink),
     }
     sink
 }

@@ -16,10 +16,9 @@ returns c =
 returns-2 : tie.Need-returns-2
 unfolding recordWords
 returns-2 c =
-    let b = c .before .before in
-    let k = b .before .before .before in
+    let k = c .before .before in
     let h = k .before .before in
-    b .bytes .ensures ∙ rw (sym (h .holder .ensures) ∙ ap heldBy (k .enum-told .given .1))
+    c .nothing .ensures ∙ rw (sym (h .holder .ensures) ∙ ap heldBy (k .enum-told .given .1))
 
 pub behind-head-spec : {M : Type 1} → statement M
 behind-head-spec =
@@ -28,7 +27,6 @@ behind-head-spec =
     (λ c κs. search needs)
     (λ c. search needs)
     (λ c κs. search needs)
-    (λ c. search needs)
     (λ c. search needs)
     (λ c κs. search needs)
     (λ c. search needs)

@@ -11,8 +11,8 @@ use Rattle.blames.proofs.cache.Tie as tie
 other : tie.Need-returns-9
 unfolding fieldOf ofThe nameAt fieldNames recordName body
 other c =
-    let o = c .before .before .before .before .before .match .rest in
-    c .before .before .bytes9 .ensures ∙ rw (ne-eqb _ 0 (o .0 .0 .0 .0 .0 .0 .0 .1), ne-eqb _ 1 (o .0 .0 .0 .0 .0 .0 .1), ne-eqb _ 5 (o .0 .0 .0 .0 .0 .1), ne-eqb _ 9 (o .0 .0 .0 .0 .1), ne-eqb _ 13 (o .0 .0 .0 .1), ne-eqb _ 14 (o .0 .0 .1), ne-eqb _ 15 (o .0 .1), ne-eqb _ 17 (o .1))
+    let o = c .before .before .match .rest in
+    c .nothing .ensures ∙ rw (ne-eqb _ 0 (o .0 .0 .0 .0 .0 .0 .0 .1), ne-eqb _ 1 (o .0 .0 .0 .0 .0 .0 .1), ne-eqb _ 5 (o .0 .0 .0 .0 .0 .1), ne-eqb _ 9 (o .0 .0 .0 .0 .1), ne-eqb _ 13 (o .0 .0 .0 .1), ne-eqb _ 14 (o .0 .0 .1), ne-eqb _ 15 (o .0 .1), ne-eqb _ 17 (o .1))
 
 pub cache-spec : {M : Type 1} → statement M
 unfolding fieldOf ofThe nameAt fieldNames recordName body
@@ -35,7 +35,6 @@ cache-spec =
     (λ c κs. search needs)
     (λ c. search needs)
     (λ c κs. search needs)
-    (λ c. search needs)
     (λ c κs. search needs)
     (λ c. search needs)
     (λ c. c .before .before .bytes .ensures ∙ rw (c .before .before .before .before .before .match .keys1))

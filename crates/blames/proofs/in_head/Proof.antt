@@ -13,11 +13,10 @@ in-head-spec =
     tie.close
     (tie.spec
     (λ c. search needs)
+    (λ c κs. search needs)
+    (λ c. search needs)
+    (λ c. c .nothing .ensures ∙ rw (ne-eqb _ 1 (c .before .before .if1 .taken)))
     (λ c. search needs)
     (λ c κs. search needs)
     (λ c. search needs)
-    (λ c. c .before .before .bytes .ensures ∙ rw (ne-eqb _ 1 (c .before .before .before .before .before .if1 .taken)))
-    (λ c. search needs)
-    (λ c κs. search needs)
-    (λ c. search needs)
-    (λ c. c .before .before .bytes2 .ensures ∙ rw (c .before .before .before .before .before .if1 .left)))
+    (λ c. c .before .before .bytes .ensures ∙ rw (c .before .before .before .before .before .if1 .left)))

@@ -11,9 +11,9 @@ use Rattle.blames.proofs.in_record.Tie as tie
 returns : tie.Need-returns
 unfolding words recordWords
 returns c =
-    let t = c .before .before .before .before .before in
+    let t = c .before .before in
     let a = t .before .before .args in
-    c .before .before .bytes .ensures ∙ rw (field-before (meantKind (a .kind)) (a .at) (a .place) (t .if1 .taken))
+    c .nothing .ensures ∙ rw (field-before (meantKind (a .kind)) (a .at) (a .place) (t .if1 .taken))
 
 returns-2 : tie.Need-returns-2
 unfolding recordWords
@@ -32,14 +32,13 @@ returns-3 c =
     let f = d .before .before .before in
     let e = f .before .before in
     let a = e .before .before .args in
-    let l = s .spaced .ensures ∙ laid-behind _ _ _ (w .bytes2 .ensures) _ in
+    let l = s .spaced .ensures ∙ laid-behind _ _ _ (w .bytes .ensures) _ in
     rw (field-behind (meantKind (a .kind)) (a .at) (a .place) (e .if1 .left)) (words-some (a .out .now) (a .n) (a .at) _ (f .field-of .ensures) (d .if2 .left) l)
 
 pub in-record-spec : {M : Type 1} → statement M
 in-record-spec =
     tie.close
     (tie.spec
-    (λ c. search needs)
     (λ c κs. search needs)
     (λ c. search needs)
     returns

@@ -2,7 +2,7 @@
 use mathlib.Core.Path.{refl, ap}
 use native.Mathlib.Omega.{arith}
 use borrow.Author.Needs.{needs}
-use Rattle.format.specs.Kind.{Processor, Resource, Cache, Memory, Acpi, Pci, Rintc, Domain, Matrix, Initiator, Target, Cell, Side, Handle}
+use Rattle.format.specs.Kind.{Processor, Resource, Cache, Memory, Acpi, Pci, Rintc, Domain, Matrix, Initiator, Target, Cell, Side, Handle, Bridge, Window, WindowTarget, Xor, Map}
 use Rattle.recipe.specs.Kinds.{meantKind}
 use Rattle.build.specs.Write.{changeOf}
 use Rattle.build.proofs.Changes.{len-is, more-is}
@@ -113,6 +113,41 @@ unfolding changeOf
 with-more-requires-11 c κs =
     let b = c .before .before .before .before in
     let n = more-is (meantKind (b .args .kind)) Handle (b .args .change) 2 (ap meantKind (c .before .enum-told14 .given .1)) (b .pre .0) (λ s vs. refl) in
+    omega (arith, n, b .pre .2)
+
+with-more-requires-12 : tie.Need-with-more-requires-12
+unfolding changeOf
+with-more-requires-12 c κs =
+    let b = c .before .before .before in
+    let n = more-is (meantKind (b .args .kind)) Bridge (b .args .change) 32 (ap meantKind (c .enum-told15 .given .1)) (b .pre .0) (λ s vs. refl) in
+    omega (arith, n, b .pre .2)
+
+with-requires-6 : tie.Need-with-requires-6
+unfolding changeOf
+with-requires-6 c κs =
+    let b = c .before .before .before in
+    let l = len-is (meantKind (b .args .kind)) WindowTarget (b .args .change) 4 (ap meantKind (c .enum-told17 .given .1)) (b .pre .0) (λ s vs. refl) in
+    omega (arith, l, b .pre .1)
+
+with-more-requires-14 : tie.Need-with-more-requires-14
+unfolding changeOf
+with-more-requires-14 c κs =
+    let b = c .before .before .before in
+    let n = more-is (meantKind (b .args .kind)) Xor (b .args .change) 8 (ap meantKind (c .enum-told18 .given .1)) (b .pre .0) (λ s vs. refl) in
+    omega (arith, n, b .pre .2)
+
+with-requires-7 : tie.Need-with-requires-7
+unfolding changeOf
+with-requires-7 c κs =
+    let b = c .before .before .before in
+    let l = len-is (meantKind (b .args .kind)) Map (b .args .change) 8 (ap meantKind (c .enum-told19 .given .1)) (b .pre .0) (λ s vs. refl) in
+    omega (arith, l, b .pre .1)
+
+with-more-requires-15 : tie.Need-with-more-requires-15
+unfolding changeOf
+with-more-requires-15 c κs =
+    let b = c .before .before .before .before in
+    let n = more-is (meantKind (b .args .kind)) Map (b .args .change) 8 (ap meantKind (c .before .enum-told19 .given .1)) (b .pre .0) (λ s vs. refl) in
     omega (arith, n, b .pre .2)
 
 returns : tie.Need-returns
@@ -226,6 +261,45 @@ returns-14 c =
     let n = more-is (meantKind (b .args .kind)) Handle (b .args .change) 2 (ap meantKind (c .before .before .enum-told14 .given .1)) (b .pre .0) (λ s vs. refl) in
     grown-after (b .args .sum .value) (b .args .out .now) (b .args .change .from) (b .args .change .len) (b .args .end) (b .args .change .more) 32 2 (c .before .with5 .result .value) (c .with-more11 .result .value) l n (c .before .with5 .ensures) (c .with-more11 .ensures)
 
+returns-15 : tie.Need-returns-15
+unfolding changeOf
+returns-15 c =
+    let b = c .before .before .before .before in
+    let l = len-is (meantKind (b .args .kind)) Bridge (b .args .change) 0 (ap meantKind (c .before .enum-told15 .given .1)) (b .pre .0) (λ s vs. refl) in
+    let n = more-is (meantKind (b .args .kind)) Bridge (b .args .change) 32 (ap meantKind (c .before .enum-told15 .given .1)) (b .pre .0) (λ s vs. refl) in
+    made-after (b .args .sum .value) (b .args .out .now) (b .args .change .from) (b .args .change .len) (b .args .end) (b .args .change .more) 32 (c .with-more12 .result .value) l n (c .with-more12 .ensures)
+
+returns-16 : tie.Need-returns-16
+unfolding changeOf
+returns-16 c =
+    let b = c .before .before .before .before in
+    let l = len-is (meantKind (b .args .kind)) Window (b .args .change) 0 (ap meantKind (c .before .enum-told16 .given .1)) (b .pre .0) (λ s vs. refl) in
+    made-after (b .args .sum .value) (b .args .out .now) (b .args .change .from) (b .args .change .len) (b .args .end) (b .args .change .more) (b .args .change .more) (c .with-more13 .result .value) l refl (c .with-more13 .ensures)
+
+returns-17 : tie.Need-returns-17
+unfolding changeOf
+returns-17 c =
+    let b = c .before .before .before .before in
+    let l = len-is (meantKind (b .args .kind)) WindowTarget (b .args .change) 4 (ap meantKind (c .before .enum-told17 .given .1)) (b .pre .0) (λ s vs. refl) in
+    let n = more-is (meantKind (b .args .kind)) WindowTarget (b .args .change) 0 (ap meantKind (c .before .enum-told17 .given .1)) (b .pre .0) (λ s vs. refl) in
+    set-after (b .args .sum .value) (b .args .out .now) (b .args .change .from) (b .args .change .len) (b .args .end) (b .args .change .more) 4 (c .with6 .result .value) l n (c .with6 .ensures)
+
+returns-18 : tie.Need-returns-18
+unfolding changeOf
+returns-18 c =
+    let b = c .before .before .before .before in
+    let l = len-is (meantKind (b .args .kind)) Xor (b .args .change) 0 (ap meantKind (c .before .enum-told18 .given .1)) (b .pre .0) (λ s vs. refl) in
+    let n = more-is (meantKind (b .args .kind)) Xor (b .args .change) 8 (ap meantKind (c .before .enum-told18 .given .1)) (b .pre .0) (λ s vs. refl) in
+    made-after (b .args .sum .value) (b .args .out .now) (b .args .change .from) (b .args .change .len) (b .args .end) (b .args .change .more) 8 (c .with-more14 .result .value) l n (c .with-more14 .ensures)
+
+returns-19 : tie.Need-returns-19
+unfolding changeOf
+returns-19 c =
+    let b = c .before .before .before .before .before in
+    let l = len-is (meantKind (b .args .kind)) Map (b .args .change) 8 (ap meantKind (c .before .before .enum-told19 .given .1)) (b .pre .0) (λ s vs. refl) in
+    let n = more-is (meantKind (b .args .kind)) Map (b .args .change) 8 (ap meantKind (c .before .before .enum-told19 .given .1)) (b .pre .0) (λ s vs. refl) in
+    grown-after (b .args .sum .value) (b .args .out .now) (b .args .change .from) (b .args .change .len) (b .args .end) (b .args .change .more) 8 8 (c .before .with7 .result .value) (c .with-more15 .result .value) l n (c .before .with7 .ensures) (c .with-more15 .ensures)
+
 pub after-spec : {M : Type 1} → statement M
 after-spec =
     tie.close
@@ -260,6 +334,17 @@ after-spec =
     (λ c. search needs)
     with-requires-5
     with-more-requires-11
+    (λ c. search needs)
+    with-more-requires-12
+    (λ c. search needs)
+    (λ c κs. search needs)
+    (λ c. search needs)
+    with-requires-6
+    (λ c. search needs)
+    with-more-requires-14
+    (λ c. search needs)
+    with-requires-7
+    with-more-requires-15
     returns
     returns-2
     returns-3
@@ -273,4 +358,9 @@ after-spec =
     returns-11
     returns-12
     returns-13
-    returns-14)
+    returns-14
+    returns-15
+    returns-16
+    returns-17
+    returns-18
+    returns-19)

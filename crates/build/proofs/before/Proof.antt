@@ -4,7 +4,7 @@ use Prim.Native.Nat.{ℕ, _+_, _%_}
 use native.Mathlib.Omega.{arith}
 use borrow.Author.Needs.{needs}
 use Rattle.format.specs.Bytes.{part, sum}
-use Rattle.format.specs.Kind.{Processor, Resource, Cache, Memory, Acpi, Pci, Rintc, Domain, Matrix, Initiator, Target, Cell, Side, Handle}
+use Rattle.format.specs.Kind.{Processor, Resource, Cache, Memory, Acpi, Pci, Rintc, Domain, Matrix, Initiator, Target, Cell, Side, Handle, Bridge, Window, WindowTarget, Xor, Map}
 use Rattle.format.specs.Build.{checkOf}
 use Rattle.recipe.specs.Kinds.{meantKind}
 use Rattle.build.specs.Write.{changeOf}
@@ -46,6 +46,20 @@ unfolding changeOf
 without-requires-5 c κs =
     let b = c .before .before .before in
     let n = len-is (meantKind (b .args .kind)) Handle (b .args .change) 32 (ap meantKind (c .enum-told14 .given .1)) (b .pre .0) (λ s vs. refl) in
+    omega (arith, n, b .pre .1)
+
+without-requires-6 : tie.Need-without-requires-6
+unfolding changeOf
+without-requires-6 c κs =
+    let b = c .before .before .before in
+    let n = len-is (meantKind (b .args .kind)) WindowTarget (b .args .change) 4 (ap meantKind (c .enum-told17 .given .1)) (b .pre .0) (λ s vs. refl) in
+    omega (arith, n, b .pre .1)
+
+without-requires-7 : tie.Need-without-requires-7
+unfolding changeOf
+without-requires-7 c κs =
+    let b = c .before .before .before in
+    let n = len-is (meantKind (b .args .kind)) Map (b .args .change) 8 (ap meantKind (c .enum-told19 .given .1)) (b .pre .0) (λ s vs. refl) in
     omega (arith, n, b .pre .1)
 
 returns : tie.Need-returns
@@ -146,6 +160,41 @@ returns-14 c =
     let n = len-is (meantKind (b .args .kind)) Handle (b .args .change) 32 (ap meantKind (c .before .enum-told14 .given .1)) (b .pre .0) (λ s vs. refl) in
     c .without5 .ensures ∙ ap (λ (n : ℕ). (b .args .sum .value + checkOf (sum (part (b .args .out .now) (b .args .change .from) n))) % 256) (sym n)
 
+returns-15 : tie.Need-returns-15
+unfolding changeOf
+returns-15 c =
+    let b = c .before .before .before in
+    let n = len-is (meantKind (b .args .kind)) Bridge (b .args .change) 0 (ap meantKind (c .enum-told15 .given .1)) (b .pre .0) (λ s vs. refl) in
+    sum-same (b .args .sum .value) (b .args .out .now) (b .args .change .from) (b .args .change .len) n (search needs)
+
+returns-16 : tie.Need-returns-16
+unfolding changeOf
+returns-16 c =
+    let b = c .before .before .before in
+    let n = len-is (meantKind (b .args .kind)) Window (b .args .change) 0 (ap meantKind (c .enum-told16 .given .1)) (b .pre .0) (λ s vs. refl) in
+    sum-same (b .args .sum .value) (b .args .out .now) (b .args .change .from) (b .args .change .len) n (search needs)
+
+returns-17 : tie.Need-returns-17
+unfolding changeOf
+returns-17 c =
+    let b = c .before .before .before .before in
+    let n = len-is (meantKind (b .args .kind)) WindowTarget (b .args .change) 4 (ap meantKind (c .before .enum-told17 .given .1)) (b .pre .0) (λ s vs. refl) in
+    c .without6 .ensures ∙ ap (λ (n : ℕ). (b .args .sum .value + checkOf (sum (part (b .args .out .now) (b .args .change .from) n))) % 256) (sym n)
+
+returns-18 : tie.Need-returns-18
+unfolding changeOf
+returns-18 c =
+    let b = c .before .before .before in
+    let n = len-is (meantKind (b .args .kind)) Xor (b .args .change) 0 (ap meantKind (c .enum-told18 .given .1)) (b .pre .0) (λ s vs. refl) in
+    sum-same (b .args .sum .value) (b .args .out .now) (b .args .change .from) (b .args .change .len) n (search needs)
+
+returns-19 : tie.Need-returns-19
+unfolding changeOf
+returns-19 c =
+    let b = c .before .before .before .before in
+    let n = len-is (meantKind (b .args .kind)) Map (b .args .change) 8 (ap meantKind (c .before .enum-told19 .given .1)) (b .pre .0) (λ s vs. refl) in
+    c .without7 .ensures ∙ ap (λ (n : ℕ). (b .args .sum .value + checkOf (sum (part (b .args .out .now) (b .args .change .from) n))) % 256) (sym n)
+
 pub before-spec : {M : Type 1} → statement M
 before-spec =
     tie.close
@@ -169,6 +218,13 @@ before-spec =
     (λ c. search needs)
     (λ c. search needs)
     without-requires-5
+    (λ c. search needs)
+    (λ c. search needs)
+    (λ c. search needs)
+    without-requires-6
+    (λ c. search needs)
+    (λ c. search needs)
+    without-requires-7
     returns
     returns-2
     returns-3
@@ -182,4 +238,9 @@ before-spec =
     returns-11
     returns-12
     returns-13
-    returns-14)
+    returns-14
+    returns-15
+    returns-16
+    returns-17
+    returns-18
+    returns-19)

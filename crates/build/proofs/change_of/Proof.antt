@@ -1,4 +1,5 @@
 -- `change_of` meets its contract: kind by kind, what the called function says.
+use mathlib.Core.List.{[]}
 use borrow.Author.Needs.{needs}
 use Rattle.build.specs.Write.{changeOf}
 use Rattle.build.proofs.change_of.Statement.{statement}
@@ -60,10 +61,40 @@ returns-14 : tie.Need-returns-14
 unfolding changeOf
 returns-14 c = rw (c .before .enum-told14 .given .1) (c .growing2 .ensures)
 
+returns-15 : tie.Need-returns-15
+unfolding changeOf
+returns-15 c = rw (c .before .enum-told15 .given .1) (c .making9 .ensures)
+
+returns-16 : tie.Need-returns-16
+unfolding changeOf
+returns-16 c = rw (c .before .enum-told16 .given .1) (c .making-window .ensures)
+
+returns-17 : tie.Need-returns-17
+unfolding changeOf
+returns-17 c = rw (c .before .enum-told17 .given .1) (c .filling-window .ensures [])
+
+returns-18 : tie.Need-returns-18
+unfolding changeOf
+returns-18 c = rw (c .before .enum-told18 .given .1) (c .making10 .ensures)
+
+returns-19 : tie.Need-returns-19
+unfolding changeOf
+returns-19 c = rw (c .before .enum-told19 .given .1) (c .growing3 .ensures)
+
 pub change-of-spec : {M : Type 1} → statement M
 change-of-spec =
     tie.close
     (tie.spec
+    (λ c. search needs)
+    (λ c κs. search needs)
+    (λ c. search needs)
+    (λ c κs. search needs)
+    (λ c. search needs)
+    (λ c κs. search needs)
+    (λ c. search needs)
+    (λ c κs. search needs)
+    (λ c. search needs)
+    (λ c κs. search needs)
     (λ c. search needs)
     (λ c κs. search needs)
     (λ c. search needs)
@@ -105,4 +136,9 @@ change-of-spec =
     returns-11
     returns-12
     returns-13
-    returns-14)
+    returns-14
+    returns-15
+    returns-16
+    returns-17
+    returns-18
+    returns-19)

@@ -1,19 +1,22 @@
 -- `put` meets its contract: kind by kind, what the called function writes of a window of the body is the record of the format.
 use mathlib.Core.Path.{_≡_, ap, _∙_}
-use Prim.Native.Nat.{ℕ}
+use Prim.Native.Nat.{ℕ, _+_, _*_}
 use mathlib.Core.List.{List}
 use native.Mathlib.Omega.{arith}
 use borrow.Author.Needs.{needs}
 use Rattle.format.specs.Bytes.{at, le, over}
-use Rattle.format.specs.Form.{processor, cache, memory, acpi, pci, rintc, domain, side, layout}
+use Rattle.format.specs.Form.{processor, cache, memory, acpi, pci, rintc, domain, side, bridge, window, xor, registers, ways, layout}
+use Rattle.format.specs.Node.{node}
 use Rattle.format.specs.Layout.{width, fields}
-use Rattle.format.specs.Kind.{Processor, Cache, Memory, Acpi, Pci, Rintc, Domain, Initiator, Side, Handle, body}
+use Rattle.format.specs.Kind.{Processor, Cache, Memory, Acpi, Pci, Rintc, Domain, Initiator, Side, Handle, Bridge, Window, WindowTarget, Xor, Map, body}
 use Rattle.recipe.specs.Kinds.{meantKind}
 use Rattle.pptt.specs.Processor as pptt
 use Rattle.hmat.specs.Hmat as hmat
+use Rattle.cedt.specs.Cedt as cedt
 use Rattle.build.specs.declared.Change.{Change}
 use Rattle.build.specs.Write.{wrote, changeOf}
-use Rattle.build.proofs.Plains.{plain-appended, processor-appended, cache-appended, matrix-appended, side-appended}
+use Rattle.build.proofs.Plains.{plain-appended, processor-appended, cache-appended, matrix-appended, side-appended, maths-appended}
+use Rattle.laws.proofs.Shapes.{plain-fld}
 use Rattle.laws.proofs.Fields.{body-window}
 use Rattle.build.proofs.Windows.{node-window, window-long}
 use Rattle.build.proofs.put.Statement.{statement}
@@ -83,6 +86,41 @@ slice-aggregate-from-body-7 c =
     let t = c .before .before .before in
     let b = t .before .before .before .before .before in
     window-long (meantKind (b .args .kind)) Handle (b .args .bytes .now) 2 (ap meantKind (t .enum-told14 .given .1)) (omega arith) (b .pre .2)
+
+slice-aggregate-from-body-8 : tie.Need-slice-aggregate-from-body-8
+unfolding width body
+slice-aggregate-from-body-8 c =
+    let t = c .before in
+    let b = t .before .before .before .before .before in
+    window-long (meantKind (b .args .kind)) Bridge (b .args .bytes .now) 13 (ap meantKind (t .enum-told15 .given .1)) (omega arith) (b .pre .2)
+
+slice-aggregate-from-body-9 : tie.Need-slice-aggregate-from-body-9
+unfolding width body
+slice-aggregate-from-body-9 c =
+    let t = c .before in
+    let b = t .before .before .before .before .before in
+    window-long (meantKind (b .args .kind)) Window (b .args .bytes .now) 22 (ap meantKind (t .enum-told16 .given .1)) (omega arith) (b .pre .2)
+
+slice-aggregate-from-body-10 : tie.Need-slice-aggregate-from-body-10
+unfolding width body
+slice-aggregate-from-body-10 c =
+    let t = c .before .before .before in
+    let b = t .before .before .before .before .before in
+    window-long (meantKind (b .args .kind)) WindowTarget (b .args .bytes .now) 4 (ap meantKind (t .enum-told17 .given .1)) (omega arith) (b .pre .2)
+
+slice-aggregate-from-body-11 : tie.Need-slice-aggregate-from-body-11
+unfolding width body
+slice-aggregate-from-body-11 c =
+    let t = c .before in
+    let b = t .before .before .before .before .before in
+    window-long (meantKind (b .args .kind)) Xor (b .args .bytes .now) 1 (ap meantKind (t .enum-told18 .given .1)) (omega arith) (b .pre .2)
+
+slice-aggregate-from-body-12 : tie.Need-slice-aggregate-from-body-12
+unfolding width body
+slice-aggregate-from-body-12 c =
+    let t = c .before .before .before in
+    let b = t .before .before .before .before .before in
+    window-long (meantKind (b .args .kind)) Map (b .args .bytes .now) 8 (ap meantKind (t .enum-told19 .given .1)) (omega arith) (b .pre .2)
 
 -- ---- a value is in the buffer
 
@@ -230,6 +268,55 @@ returns-14 c =
     let e = d .before .from-body8 .ensures ∙ body-window Handle (a .bytes .now) 2 (omega arith) in
     rw (t .enum-told14 .given .1) (d .grow .ensures ∙ ap (λ (vs : List ℕ). hmat.grown (a .out .now) (a .s .latest .place) (a .s .latest .count) (at vs 0)) e)
 
+returns-15 : tie.Need-returns-15
+unfolding wrote layout width body
+returns-15 c =
+    let d = c .before .before in
+    let e = d .before .before in
+    let t = e .before .before in
+    let bs = t .before .before .before .before .before .args .bytes .now in
+    let f = e .from-body9 .ensures ∙ body-window Bridge bs 13 (omega arith) in
+    rw (t .enum-told15 .given .1)
+    (d .put10 .ensures ∙ plain-appended (bridge (registers (at (fields (body Bridge) bs) 1))) _ _ _ _ (ap (λ (vs : List ℕ). node (bridge (registers (at vs 1))) vs) f) tt)
+
+returns-16 : tie.Need-returns-16
+unfolding wrote layout width body
+returns-16 c =
+    let d = c .before .before in
+    let e = d .before .before in
+    let t = e .before .before in
+    let bs = t .before .before .before .before .before .args .bytes .now in
+    let f = e .from-body10 .ensures ∙ body-window Window bs 22 (omega arith) in
+    let n = ways (at (fields (body Window) bs) 2) in
+    rw (t .enum-told16 .given .1) (d .put11 .ensures ∙ plain-appended (window n) _ _ _ _ (ap (λ (vs : List ℕ). node (window (ways (at vs 2))) vs) f) (plain-fld n 4))
+
+returns-17 : tie.Need-returns-17
+unfolding wrote width body
+returns-17 c =
+    let d = c .before .before in
+    let t = d .before .before .before .before .before in
+    let a = t .before .before .before .before .before .args in
+    let e = d .before .from-body11 .ensures ∙ body-window WindowTarget (a .bytes .now) 4 (omega arith) in
+    rw (t .enum-told17 .given .1) (d .add-target .ensures ∙ ap (λ (vs : List ℕ). over (a .out .now) (a .s .latest .place + 36 + 4 * a .s .latest .count) (le 4 (at vs 0))) e)
+
+returns-18 : tie.Need-returns-18
+unfolding wrote width body
+returns-18 c =
+    let d = c .before .before in
+    let e = d .before .before in
+    let t = e .before .before in
+    let bs = t .before .before .before .before .before .args .bytes .now in
+    rw (t .enum-told18 .given .1) (d .put12 .ensures ∙ maths-appended _ _ _ _ (node-window Xor (xor 0) bs 1 _ (omega arith) (e .from-body12 .ensures)))
+
+returns-19 : tie.Need-returns-19
+unfolding wrote width body
+returns-19 c =
+    let d = c .before .before in
+    let t = d .before .before .before .before .before in
+    let a = t .before .before .before .before .before .args in
+    let e = d .before .from-body13 .ensures ∙ body-window Map (a .bytes .now) 8 (omega arith) in
+    rw (t .enum-told19 .given .1) (d .add-xormap .ensures ∙ ap (λ (vs : List ℕ). cedt.grown (a .out .now) (a .s .latest .place) (a .s .latest .count) (at vs 0)) e)
+
 pub put-spec : {M : Type 1} → statement M
 put-spec =
     tie.close
@@ -285,6 +372,28 @@ put-spec =
     (λ c κs. search needs)
     (λ c κs. search needs)
     (λ c. search needs)
+    slice-aggregate-from-body-8
+    (λ c κs. search needs)
+    (λ c κs. search needs)
+    (λ c. search needs)
+    slice-aggregate-from-body-9
+    (λ c κs. search needs)
+    (λ c κs. search needs)
+    (λ c. search needs)
+    (λ c. search needs)
+    slice-aggregate-from-body-10
+    (λ c κs. search needs)
+    (λ c κs. search needs)
+    (λ c. search needs)
+    slice-aggregate-from-body-11
+    (λ c κs. search needs)
+    (λ c κs. search needs)
+    (λ c. search needs)
+    (λ c. search needs)
+    slice-aggregate-from-body-12
+    (λ c κs. search needs)
+    (λ c κs. search needs)
+    (λ c. search needs)
     returns
     (λ c. search needs)
     returns-2
@@ -311,4 +420,14 @@ put-spec =
     (λ c. search needs)
     returns-13
     (λ c. search needs)
-    returns-14)
+    returns-14
+    (λ c. search needs)
+    returns-15
+    (λ c. search needs)
+    returns-16
+    (λ c. search needs)
+    returns-17
+    (λ c. search needs)
+    returns-18
+    (λ c. search needs)
+    returns-19)

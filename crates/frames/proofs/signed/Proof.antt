@@ -23,10 +23,19 @@ returns-3 c =
 
 returns-4 : tie.Need-returns-4
 returns-4 c =
-    let d = c .before in
+    let e = c .before in
+    let d = e .before .before .before in
     let b = d .before .before .before in
     let a = b .before .before .before in
-    rw (← a .before .before .first .ensures, ← a .same .ensures, b .before .before .if1 .left, ← b .same2 .ensures, d .before .before .if2 .left, ← d .same3 .ensures, c .if3 .left)
+    rw (← a .before .before .first .ensures, ← a .same .ensures, b .before .before .if1 .left, ← b .same2 .ensures, d .before .before .if2 .left, ← d .same3 .ensures, e .before .before .if3 .left, ← e .same4 .ensures, c .if4 .taken)
+
+returns-5 : tie.Need-returns-5
+returns-5 c =
+    let e = c .before in
+    let d = e .before .before .before in
+    let b = d .before .before .before in
+    let a = b .before .before .before in
+    rw (← a .before .before .first .ensures, ← a .same .ensures, b .before .before .if1 .left, ← b .same2 .ensures, d .before .before .if2 .left, ← d .same3 .ensures, e .before .before .if3 .left, ← e .same4 .ensures, c .if4 .left)
 
 pub signed-spec : {M : Type 1} → statement M
 signed-spec =
@@ -42,4 +51,7 @@ signed-spec =
     (λ c. search needs)
     (λ c κs. search needs)
     returns-3
-    returns-4)
+    (λ c. search needs)
+    (λ c κs. search needs)
+    returns-4
+    returns-5)

@@ -28,6 +28,9 @@ returns-2 c = rw (c .before .enum-told2 .given .1, part-drop) (value-byte _ _)
 returns-3 : tie.Need-returns-3
 returns-3 c = rw (c .before .enum-told3 .given .1, part-drop) (c .get-u32 .ensures)
 
+returns-4 : tie.Need-returns-4
+returns-4 c = rw (c .before .enum-told4 .given .1, part-drop) (c .get-u16 .ensures)
+
 pub size-at-spec : {M : Type 1} → statement M
 size-at-spec =
     tie.close
@@ -43,6 +46,11 @@ size-at-spec =
     (λ c. search needs)
     (λ c. search needs)
     (λ c κs. search needs)
+    (λ c. search needs)
+    (λ c. search needs)
+    (λ c κs. search needs)
+    (λ c. search needs)
     returns
     returns-2
-    returns-3)
+    returns-3
+    returns-4)

@@ -22,6 +22,9 @@ returns-3 c =
 returns-4 : tie.Need-returns-4
 returns-4 c = rw (c .before .enum-told3 .given .1, fixed-at, ← c .get-u322 .ensures) (sym (both-right (eqb (c .get-u322 .result) 0)))
 
+returns-5 : tie.Need-returns-5
+returns-5 c = rw (c .enum-told4 .given .1, fixed-at)
+
 pub tail-stands-spec : {M : Type 1} → statement M
 tail-stands-spec =
     tie.close
@@ -33,6 +36,8 @@ tail-stands-spec =
     (λ c κs. search needs)
     (λ c. search needs)
     (λ c κs. search needs)
+    (λ c. search needs)
     returns-2
     returns-3
-    returns-4)
+    returns-4
+    returns-5)

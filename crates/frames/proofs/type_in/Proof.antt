@@ -16,6 +16,10 @@ returns-3 : tie.Need-returns-3
 unfolding part
 returns-3 c = rw (c .before .enum-told3 .given .1) (c .long-type .ensures)
 
+returns-4 : tie.Need-returns-4
+unfolding part
+returns-4 c = rw (c .before .enum-told4 .given .1) (c .short-type3 .ensures)
+
 pub type-in-spec : {M : Type 1} → statement M
 type-in-spec =
     tie.close
@@ -28,6 +32,10 @@ type-in-spec =
     (λ c. search needs)
     (λ c. search needs)
     (λ c κs. search needs)
+    (λ c. search needs)
+    (λ c κs. search needs)
+    (λ c. search needs)
     returns
     returns-2
-    returns-3)
+    returns-3
+    returns-4)

@@ -24,6 +24,10 @@ returns-3 : tie.Need-returns-3
 unfolding layWith
 returns-3 c n = let d = c .before .before in rw (d .before .before .enum-told3 .given .1, append-nil) (d .put-u322 .ensures)
 
+returns-4 : tie.Need-returns-4
+unfolding layWith
+returns-4 c n = rw (c .enum-told4 .given .1) (sym (over-none _ 36 [] (omega arith)))
+
 pub put-front-spec : {M : Type 1} → statement M
 put-front-spec =
     tie.close
@@ -35,8 +39,10 @@ put-front-spec =
     (λ c κs. search needs)
     (λ c. search needs)
     (λ c κs. search needs)
+    (λ c. search needs)
     returns
     (λ c. search needs)
     returns-2
     (λ c. search needs)
-    returns-3)
+    returns-3
+    returns-4)

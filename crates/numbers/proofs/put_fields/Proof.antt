@@ -32,12 +32,27 @@ returns-8 : tie.Need-returns-8
 returns-8 c = rw (c .before .before .before .before .before .node8 .given .1) (c .before .before .put-fields8 .ensures)
 
 returns-9 : tie.Need-returns-9
-returns-9 c = rw (c .enum-told .given .1) (sym (over-none (c .before .before .before .args .answer .now) (c .before .before .before .args .at) [] (omega arith)))
+returns-9 c = rw (c .before .before .before .before .before .node9 .given .1) (c .before .before .put-fields9 .ensures)
+
+returns-10 : tie.Need-returns-10
+returns-10 c = rw (c .before .before .before .before .before .node10 .given .1) (c .before .before .put-fields10 .ensures)
+
+returns-11 : tie.Need-returns-11
+returns-11 c = rw (c .before .before .before .before .before .node11 .given .1) (c .before .before .put-fields11 .ensures)
+
+returns-12 : tie.Need-returns-12
+returns-12 c = rw (c .enum-told .given .1) (sym (over-none (c .before .before .before .args .answer .now) (c .before .before .before .args .at) [] (omega arith)))
 
 pub put-fields-spec : {M : Type 1} → statement M
 put-fields-spec =
     tie.close
     (tie.spec
+    (λ c. search needs)
+    (λ c κs. search needs)
+    (λ c. search needs)
+    (λ c κs. search needs)
+    (λ c. search needs)
+    (λ c κs. search needs)
     (λ c. search needs)
     (λ c κs. search needs)
     (λ c. search needs)
@@ -71,4 +86,10 @@ put-fields-spec =
     returns-7
     (λ c. search needs)
     returns-8
-    returns-9)
+    (λ c. search needs)
+    returns-9
+    (λ c. search needs)
+    returns-10
+    (λ c. search needs)
+    returns-11
+    returns-12)

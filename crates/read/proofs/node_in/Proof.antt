@@ -1,13 +1,13 @@
 -- `node_in` meets its contract: of each row the node that its type reads.
 use mathlib.Core.Path.{refl, _∙_}
 use borrow.Author.Needs.{needs}
-use Rattle.format.specs.Bytes.{part}
-use Rattle.format.specs.Row.{caches, memories, initiators, rintcs, domains, formIn}
+use Rattle.format.specs.Row.{caches, memories, initiators, rintcs, domains, matrices, sides, bridges, windows, xors, formIn}
 use Rattle.format.specs.Read.{shown, fieldsOf}
 use Rattle.pptt.specs.Cache.{cacheNode}
 use Rattle.srat.specs.Srat.{memoryNode, initiatorNode, rintcNode}
-use Rattle.hmat.specs.Hmat.{domainNode, matrixHead, sideHead}
-use Rattle.read.proofs.Fields.{fields-shown, handle-shown, matrix-shown, side-shown}
+use Rattle.hmat.proofs.Shows.{shown-domain, shown-matrix, shown-side}
+use Rattle.cedt.proofs.Shows.{shown-bridge, shown-window, shown-maths}
+use Rattle.read.proofs.Fields.{node-shown, fields-shown, handle-shown}
 use Rattle.read.proofs.node_in.Statement.{statement}
 use Rattle.read.proofs.node_in.Tie as tie
 
@@ -32,20 +32,27 @@ unfolding formIn shown
 returns-5 c = rw (c .before .enum-told5 .given .1) (refl, fields-shown rintcs _ (rintcNode (c .get4 .result)) (c .get4 .ensures))
 
 returns-6 : tie.Need-returns-6
-unfolding formIn shown
-returns-6 c = rw (c .before .enum-told6 .given .1) (refl, fields-shown domains _ (domainNode (c .get5 .result)) (c .get5 .ensures))
+unfolding formIn
+returns-6 c = rw (c .before .enum-told6 .given .1) (refl, shown-domain (c .get5 .result) _ (c .get5 .ensures) ∙ node-shown domains _)
 
 returns-7 : tie.Need-returns-7
-unfolding shown part
-returns-7 c = rw (c .before .enum-told7 .given .1) (refl, matrix-shown _ (matrixHead (c .get6 .result)) (c .get6 .ensures))
+returns-7 c = rw (c .before .enum-told7 .given .1) (refl, shown-matrix (c .get6 .result) _ (c .get6 .ensures) ∙ node-shown matrices _)
 
 returns-8 : tie.Need-returns-8
-unfolding shown
-returns-8 c = rw (c .before .enum-told8 .given .1) (refl, side-shown _ (sideHead (c .get7 .result)) (c .get7 .ensures))
+returns-8 c = rw (c .before .enum-told8 .given .1) (refl, shown-side (c .get7 .result) _ (c .get7 .ensures) ∙ node-shown sides _)
 
 returns-9 : tie.Need-returns-9
+returns-9 c = rw (c .before .enum-told9 .given .1) (refl, shown-bridge (c .get8 .result) _ (c .get8 .ensures) ∙ node-shown bridges _)
+
+returns-10 : tie.Need-returns-10
+returns-10 c = rw (c .before .enum-told10 .given .1) (refl, shown-window (c .get9 .result) _ (c .get9 .ensures) ∙ node-shown windows _)
+
+returns-11 : tie.Need-returns-11
+returns-11 c = rw (c .before .enum-told11 .given .1) (refl, shown-maths (c .get10 .result) _ (c .get10 .ensures) ∙ node-shown xors _)
+
+returns-12 : tie.Need-returns-12
 unfolding fieldsOf
-returns-9 c = rw (c .enum-told9 .given .1) (refl, refl)
+returns-12 c = rw (c .enum-told12 .given .1) (refl, refl)
 
 pub node-in-spec : {M : Type 1} → statement M
 node-in-spec =
@@ -53,6 +60,12 @@ node-in-spec =
     (tie.spec
     (λ c. search needs)
     (λ c κs. c .before .before .before .pre (rw (c .enum-told .given .1)))
+    (λ c. search needs)
+    (λ c κs. search needs)
+    (λ c. search needs)
+    (λ c κs. search needs)
+    (λ c. search needs)
+    (λ c κs. search needs)
     (λ c. search needs)
     (λ c κs. search needs)
     (λ c. search needs)
@@ -76,4 +89,7 @@ node-in-spec =
     returns-6
     returns-7
     returns-8
-    returns-9)
+    returns-9
+    returns-10
+    returns-11
+    returns-12)

@@ -2,7 +2,7 @@
 use mathlib.Core.Path.{_≡_, ap}
 use native.Mathlib.Omega.{arith}
 use borrow.Author.Needs.{needs}
-use Rattle.format.specs.Table.{pptt, srat, hmat, code}
+use Rattle.format.specs.Table.{pptt, srat, hmat, cedt, code}
 use Rattle.header.specs.Header.{meant}
 use Rattle.read.proofs.Refs.{other-refs}
 use Rattle.read.proofs.refs_stand.Statement.{statement}
@@ -14,6 +14,9 @@ srat-other e = let n = ap code e in omega arith
 
 hmat-other : hmat ≡ pptt → ⊥
 hmat-other e = let n = ap code e in omega arith
+
+cedt-other : cedt ≡ pptt → ⊥
+cedt-other e = let n = ap code e in omega arith
 
 refs-good-requires : tie.Need-refs-good-requires
 refs-good-requires c κs =
@@ -33,5 +36,10 @@ returns-3 c =
     let s = c .before .before .before .before .before in
     other-refs _ (meant (s .args .t)) _ _ (λ e. hmat-other (rw (c .enum-told3 .given .1) at e)) (s .pre .1)
 
+returns-4 : tie.Need-returns-4
+returns-4 c =
+    let s = c .before .before .before .before .before in
+    other-refs _ (meant (s .args .t)) _ _ (λ e. cedt-other (rw (c .enum-told4 .given .1) at e)) (s .pre .1)
+
 pub refs-stand-spec : {M : Type 1} → statement M
-refs-stand-spec = tie.close (tie.spec (λ c. search needs) refs-good-requires (λ c. search needs) (λ c. search needs) returns returns-2 returns-3)
+refs-stand-spec = tie.close (tie.spec (λ c. search needs) refs-good-requires (λ c. search needs) (λ c. search needs) (λ c. search needs) returns returns-2 returns-3 returns-4)

@@ -6,8 +6,8 @@ use native.Mathlib.Omega.{arith}
 use borrow.Author.Needs.{needs}
 use Rattle.format.specs.Layout.{width}
 use Rattle.format.specs.Form.{cache, memory, rintc, domain}
-use Rattle.format.specs.Row.{initiators, matrices, formIn}
-use Rattle.format.specs.Kind.{Cache, Memory, Rintc, Domain, body}
+use Rattle.format.specs.Row.{initiators, matrices, bridges, formIn}
+use Rattle.format.specs.Kind.{Cache, Memory, Rintc, Domain, Bridge, body}
 use Rattle.format.specs.Normal.{calls}
 use Rattle.laws.proofs.Fields.{length-call}
 use Rattle.rows.specs.Rows.{rowMeant}
@@ -70,7 +70,17 @@ returns-8 : tie.Need-returns-8
 returns-8 c = let v = c .before in rw (v .before .before .enum-told8 .given .1) (λ g. omega (arith, v .put-side .ensures .0 g .next), omega (arith, v .put-side .ensures .1))
 
 returns-9 : tie.Need-returns-9
-returns-9 c = rw (c .enum-told9 .given .1) (λ g. refl, omega arith)
+unfolding formIn calls body width
+returns-9 c = rw (c .enum-told9 .given .1) (λ g. rw (calls-at g (formIn bridges _), length-call Bridge), omega arith)
+
+returns-10 : tie.Need-returns-10
+returns-10 c = let v = c .before in rw (v .before .before .enum-told10 .given .1) (λ g. omega (arith, v .put-window .ensures .0 g .next), omega (arith, v .put-window .ensures .1))
+
+returns-11 : tie.Need-returns-11
+returns-11 c = let v = c .before in rw (v .before .before .enum-told11 .given .1) (λ g. omega (arith, v .put-maths .ensures .0 g .next), omega (arith, v .put-maths .ensures .1))
+
+returns-12 : tie.Need-returns-12
+returns-12 c = rw (c .enum-told12 .given .1) (λ g. refl, omega arith)
 
 pub calls-len-spec : {M : Type 1} → statement M
 calls-len-spec =
@@ -101,6 +111,14 @@ calls-len-spec =
     (λ c. search needs)
     (λ c κs. search needs)
     (λ c. search needs)
+    (λ c. search needs)
+    (λ c. search needs)
+    (λ c. search needs)
+    (λ c κs. search needs)
+    (λ c. search needs)
+    (λ c. search needs)
+    (λ c κs. search needs)
+    (λ c. search needs)
     returns
     returns-2
     returns-3
@@ -109,4 +127,7 @@ calls-len-spec =
     returns-6
     returns-7
     returns-8
-    returns-9)
+    returns-9
+    returns-10
+    returns-11
+    returns-12)

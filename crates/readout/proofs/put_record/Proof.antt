@@ -5,7 +5,7 @@ use native.Mathlib.Omega.{arith}
 use borrow.Author.Needs.{needs}
 use Rattle.format.specs.Table.{Table}
 use Rattle.format.specs.Form.{memory, rintc, domain, layout}
-use Rattle.format.specs.Row.{processors, caches, initiators, matrices, formIn}
+use Rattle.format.specs.Row.{processors, caches, initiators, matrices, bridges, formIn}
 use Rattle.marks.specs.Marks.{Every}
 use Rattle.frames.specs.Frames.{Passed}
 use Rattle.rows.specs.Rows.{rowMeant}
@@ -114,8 +114,31 @@ returns-8 : tie.Need-returns-8
 unfolding formIn
 returns-8 c = let v = c .before .before in rw (v .before .before .enum-told8 .given .1) (v .put-side .ensures .0 _, omega arith)
 
+add-result-5 : tie.Need-add-result-5
+unfolding formIn
+add-result-5 c =
+    let v = c .before .before in
+    let l = node-short (formIn bridges _) _ _ (v .before .before .get5 .ensures) refl in
+    omega (arith, l, v .put-body5 .ensures .1)
+
 returns-9 : tie.Need-returns-9
-returns-9 c = rw (c .enum-told9 .given .1) (none-laid _ _, omega arith)
+unfolding formIn
+returns-9 c =
+    let v = c .before .before in
+    let g = v .before .before in
+    let l = node-short (formIn bridges _) _ _ (g .get5 .ensures) refl in
+    rw (g .before .enum-told9 .given .1) (node-laid (formIn bridges _) _ _ (g .get5 .ensures) _ _ _ _ _ _ (plain-row bridges _ tt) (v .put-body5 .ensures .0) (v .put-body5 .ensures .1) refl, omega (arith, l, v .put-body5 .ensures .1))
+
+returns-10 : tie.Need-returns-10
+unfolding formIn
+returns-10 c = let v = c .before .before in rw (v .before .before .enum-told10 .given .1) (v .put-window .ensures .0 _, omega arith)
+
+returns-11 : tie.Need-returns-11
+unfolding formIn
+returns-11 c = let v = c .before .before in rw (v .before .before .enum-told11 .given .1) (v .put-maths .ensures .0 _, omega arith)
+
+returns-12 : tie.Need-returns-12
+returns-12 c = rw (c .enum-told12 .given .1) (none-laid _ _, omega arith)
 
 pub put-record-spec : {M : Type 1} → statement M
 put-record-spec =
@@ -146,6 +169,14 @@ put-record-spec =
     (λ c. search needs)
     (λ c κs. search needs)
     (λ c. search needs)
+    (λ c κs. search needs)
+    (λ c κs. search needs)
+    add-result-5
+    (λ c. search needs)
+    (λ c κs. search needs)
+    (λ c. search needs)
+    (λ c κs. search needs)
+    (λ c. search needs)
     (λ c. search needs)
     returns
     (λ c. search needs)
@@ -162,4 +193,10 @@ put-record-spec =
     returns-7
     (λ c. search needs)
     returns-8
-    returns-9)
+    (λ c. search needs)
+    returns-9
+    (λ c. search needs)
+    returns-10
+    (λ c. search needs)
+    returns-11
+    returns-12)

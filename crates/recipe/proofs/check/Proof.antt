@@ -5,7 +5,7 @@ use native.Mathlib.Omega.{arith}
 use borrow.Author.Needs.{needs}
 use borrow.Author.Tests.{ne-eqb}
 use Rattle.format.specs.Bytes.{value, part}
-use Rattle.format.specs.Table.{Table, pptt, srat, hmat, code}
+use Rattle.format.specs.Table.{Table, pptt, srat, hmat, cedt, code}
 use Rattle.format.specs.Recipe.{tableOf}
 use Rattle.recipe.specs.Answers.{outlined}
 use Rattle.recipe.proofs.Types.{typed-none}
@@ -54,12 +54,21 @@ returns-5 c =
 
 returns-6 : tie.Need-returns-6
 returns-6 c =
+    let w = c .before in
+    let m = w .before .before in
+    let g = m .before in
+    let b = g .before in
+    let a = b .before in
+    w .walk4 .ensures ∙ sym (ap outlined (headed-by _ (sym (a .before .get-u8 .ensures) ∙ a .if1 .left) (b .if2 .left) cedt (sym (g .get-u82 .ensures) ∙ m .match .keys4)))
+
+returns-7 : tie.Need-returns-7
+returns-7 c =
     let o = c .match .rest in
     let g = c .before in
     let b = g .before in
     let a = b .before in
     let r = a .before .before .before .args .recipe .now in
-    let z : tableOf (value (part r 1 1)) ≡ none = rw (← g .get-u82 .ensures, ne-eqb _ _ (o .0 .0 .1), ne-eqb _ _ (o .0 .1), ne-eqb _ _ (o .1)) in
+    let z : tableOf (value (part r 1 1)) ≡ none = rw (← g .get-u82 .ensures, ne-eqb _ _ (o .0 .0 .0 .1), ne-eqb _ _ (o .0 .0 .1), ne-eqb _ _ (o .0 .1), ne-eqb _ _ (o .1)) in
     sym (ap outlined (no-table r (sym (a .before .get-u8 .ensures) ∙ a .if1 .left) (b .if2 .left) z))
 
 pub check-spec : {M : Type 1} → statement M
@@ -76,7 +85,10 @@ check-spec =
     (λ c κs e. other-code srat e (λ z. omega arith))
     (λ c. search needs)
     (λ c κs e. other-code hmat e (λ z. omega arith))
+    (λ c. search needs)
+    (λ c κs e. other-code cedt e (λ z. omega arith))
     returns-3
     returns-4
     returns-5
-    returns-6)
+    returns-6
+    returns-7)

@@ -5,14 +5,16 @@ use mathlib.Core.List.{List}
 use borrow.Author.Needs.{needs}
 use lib.ListN.{length, take}
 use lib.Seq.{length-take-le}
-use Rattle.format.specs.Layout.{width, refsGood}
-use Rattle.format.specs.Form.{memory, acpi, pci, rintc, domain, side, ranges}
+use Rattle.format.specs.Layout.{width, fields, refsGood}
+use Rattle.format.specs.Bytes.{at}
+use Rattle.format.specs.Form.{memory, acpi, pci, rintc, domain, side, bridge, xor, registers, ranges}
+use Rattle.format.specs.Node.{node}
 use Rattle.format.specs.Kind.{body}
 use Rattle.format.specs.Kind as format
 use Rattle.format.specs.Recipe.{step}
 use Rattle.format.specs.Field.{firstBad, badField}
 use Rattle.recipe.specs.declared.Kind.{Kind}
-use Rattle.recipe.specs.declared.Kind.the-variants.{Processor, Resource, Cache, Memory, Acpi, Pci, Rintc, Matrix, Initiator, Target, Cell, Side}
+use Rattle.recipe.specs.declared.Kind.the-variants.{Processor, Resource, Cache, Memory, Acpi, Pci, Rintc, Matrix, Initiator, Target, Cell, Side, Bridge, Window, Xor}
 use Rattle.recipe.specs.Kinds.{meantKind}
 use Rattle.recipe.proofs.Steps.{turn-window, plain-turn}
 use Rattle.recipe.proofs.judge.Statement.{statement}
@@ -26,6 +28,17 @@ there kind k e bs h = sym (length-take-le (width (body (meantKind k))) bs (rw e 
 returns-8 : tie.Need-returns-8
 unfolding body step refsGood ranges firstBad badField
 returns-8 c = rw (c .before .enum-told8 .given .1, c .made5 .ensures) (λ t ns p e b q w. plain-turn format.Domain domain _ _ refl (λ ms. refl) (λ ok vs. refl) t ns p _ _ refl e)
+
+-- a bridge's version settles its form
+returns-15 : tie.Need-returns-15
+unfolding body width step refsGood ranges
+returns-15 c =
+    let d = c .before .before in
+    let bs = take 13 (d .before .before .before .before .before .before .args .bytes .now) in
+    let vs = fields (body format.Bridge) bs in
+    let bad = c .before .bad-field6 .ensures ∙ ap (λ vs. badField (node (bridge (registers (at vs 1))) vs)) (d .from-body4 .ensures) in
+    rw (d .before .before .enum-told15 .given .1, c .made7 .ensures)
+    (λ t ns p e b q w. plain-turn format.Bridge (bridge (registers (at vs 1))) bs vs refl (λ ms. refl) (λ ok vs. refl) t ns p _ _ bad e ∙ turn-window t ns format.Bridge _ p)
 
 pub judge-spec : {M : Type 1} → statement M
 unfolding body width step refsGood
@@ -82,6 +95,23 @@ judge-spec =
     (λ c κs. search needs)
     (λ c. search needs)
     (λ c κs. search needs)
+    (λ c. search needs)
+    (λ c. let s = c .before .before .before .before .before in there _ Bridge (c .before .enum-told15 .given .1) (s .args .bytes .now) (s .pre .1))
+    (λ c κs. search needs)
+    (λ c κs. search needs)
+    (λ c κs. search needs)
+    (λ c. search needs)
+    (λ c. let s = c .before .before .before .before .before in there _ Window (c .before .enum-told16 .given .1) (s .args .bytes .now) (s .pre .1))
+    (λ c κs. search needs)
+    (λ c. search needs)
+    (λ c κs. search needs)
+    (λ c. search needs)
+    (λ c. let s = c .before .before .before .before .before in there _ Xor (c .before .enum-told18 .given .1) (s .args .bytes .now) (s .pre .1))
+    (λ c κs. search needs)
+    (λ c κs. search needs)
+    (λ c κs. search needs)
+    (λ c. search needs)
+    (λ c κs. search needs)
     (λ c. rw (c .before .before .enum-told .given .1) (λ t ns p e b q w. c .processor .ensures t ns p e b q w ∙ turn-window t ns format.Processor _ p))
     (λ c. rw (c .before .before .enum-told2 .given .1) (λ t ns p e b q w. c .resource .ensures t ns p e b q w ∙ turn-window t ns format.Resource _ p))
     (λ c. rw (c .before .before .enum-told3 .given .1) (λ t ns p e b q w. c .cache .ensures t ns p e b q w ∙ turn-window t ns format.Cache _ p))
@@ -95,4 +125,9 @@ judge-spec =
     (λ c. rw (c .before .before .enum-told11 .given .1) (λ t ns p e b q w. c .target .ensures t ns p e ∙ turn-window t ns format.Target _ p))
     (λ c. rw (c .before .before .enum-told12 .given .1) (λ t ns p e b q w. c .cell .ensures t ns p e ∙ turn-window t ns format.Cell _ p))
     (λ c. let d = c .before .before in rw (d .before .before .enum-told13 .given .1, c .made6 .ensures) (λ t ns p e b q w. plain-turn format.Side (side 0) _ _ refl (λ ms. refl) (λ ok vs. refl) t ns p _ _ (c .before .bad-field5 .ensures ∙ ap badField (d .from-body3 .ensures)) e ∙ turn-window t ns format.Side _ p))
-    (λ c. rw (c .before .enum-told14 .given .1) (λ t ns p e b q w. c .handle .ensures _ t ns p e)))
+    (λ c. rw (c .before .enum-told14 .given .1) (λ t ns p e b q w. c .handle .ensures _ t ns p e))
+    returns-15
+    (λ c. rw (c .before .before .enum-told16 .given .1) (λ t ns p e b q w. c .window .ensures t ns p e ∙ turn-window t ns format.Window _ p))
+    (λ c. rw (c .before .enum-told17 .given .1) (λ t ns p e b q w. c .window-target .ensures _ t ns p e (w .begun)))
+    (λ c. let d = c .before .before in rw (d .before .before .enum-told18 .given .1, c .made8 .ensures) (λ t ns p e b q w. plain-turn format.Xor (xor 0) _ _ refl (λ ms. refl) (λ ok vs. refl) t ns p _ _ (c .before .bad-field7 .ensures ∙ ap badField (d .from-body5 .ensures)) e ∙ turn-window t ns format.Xor _ p))
+    (λ c. rw (c .before .enum-told19 .given .1) (λ t ns p e b q w. c .map .ensures _ t ns p e)))

@@ -3,7 +3,7 @@ use mathlib.Core.Path.{_≡_, sym}
 use native.Mathlib.Nat.{le-antisymm}
 use native.Mathlib.Omega.{arith}
 use borrow.Author.Needs.{needs}
-use Rattle.format.specs.Table.{pptt, srat}
+use Rattle.format.specs.Table.{pptt, srat, cedt}
 use Rattle.format.specs.Kind.{kindOf}
 use Rattle.recipe.proofs.Numbers.{unnamed, past}
 use Rattle.recipe.proofs.of_hmat.Statement.{statement}
@@ -25,6 +25,7 @@ of-hmat-spec =
     (λ c. search needs)
     (λ c. search needs)
     (λ c. search needs)
+    (λ c. search needs)
     (λ c. rw (c .enum-told .given .1) (sym (unnamed pptt (c .before .before .args .byte) (λ l m. omega arith))))
     (λ c. rw (c .enum-told2 .given .1) (sym (unnamed srat (c .before .before .args .byte) (λ l m. omega arith))))
     (λ c. rw (c .before .enum-told3 .given .1, c .match2 .keys1))
@@ -33,4 +34,5 @@ of-hmat-spec =
     (λ c. rw (c .before .enum-told3 .given .1, c .match2 .keys4))
     (λ c. rw (c .before .enum-told3 .given .1, c .match2 .keys5))
     (λ c. rw (c .before .enum-told3 .given .1, c .match2 .keys6))
-    rest)
+    rest
+    (λ c. rw (c .enum-told4 .given .1) (sym (unnamed cedt (c .before .before .args .byte) (λ l m. omega arith)))))

@@ -16,13 +16,13 @@ use Rattle.recipe.proofs.past_cells.Tie as tie
 
 abbrev Inv-loop : tie.InvT-loop
 Inv-loop recipe from i t at₀ at =
-    (from ≤ at) × ((h : Head) (s : State) (ws : List ℕ) → s .table ≡ Hmat → s .newest ≡ Matrix i t → Stands recipe h from s ws → Stands recipe h at s ws)
+    (from ≤ at) × ((h : Head) (made : ℕ) (s : State) (ws : List ℕ) → s .table ≡ Hmat → s .newest ≡ Matrix i t → Stands recipe h made from s ws → Stands recipe h made at s ws)
 
 abbrev μ-loop : tie.MeasureT-loop
 μ-loop recipe from i t at₀ at = length recipe - at
 
 loop-holds : tie.Need-loop-holds Inv-loop μ-loop
-loop-holds c = (search needs, λ h s ws o n w. w)
+loop-holds c = (search needs, λ h q s ws o n w. w)
 
 add-at : tie.Need-add-at Inv-loop μ-loop
 add-at c =
@@ -45,13 +45,13 @@ loop-less c =
 loop-again : tie.Need-loop-again Inv-loop μ-loop
 loop-again c =
     let l = c .before .before in
-    (omega (arith, l .loop .inv .0), λ h s ws o n w. cell-passed _ h (l .loop .at) s ws (l .loop .inv .1 h s ws o n w) _ _ o n (sym (c .before .stands .ensures) ∙ c .if1 .taken))
+    (omega (arith, l .loop .inv .0), λ h q s ws o n w. cell-passed _ h q (l .loop .at) s ws (l .loop .inv .1 h q s ws o n w) _ _ o n (sym (c .before .stands .ensures) ∙ c .if1 .taken))
 
 returns-3 : tie.Need-returns-3 Inv-loop μ-loop
 returns-3 c =
     let l = c .before .before in
     let n = l .before .before in
-    (l .loop .inv .0, λ h ws w. l .loop .inv .1 h _ ws (n .before .before .enum-told .given .1) (n .newest .given .1) w)
+    (l .loop .inv .0, λ h q ws w. l .loop .inv .1 h q _ ws (n .before .before .enum-told .given .1) (n .newest .given .1) w)
 
 pub past-cells-spec : {M : Type 1} → statement M
 past-cells-spec =
@@ -60,9 +60,9 @@ past-cells-spec =
     Inv-loop
     μ-loop
     (λ c. search needs)
-    (λ c. (search needs, λ h ws w. w))
+    (λ c. (search needs, λ h q ws w. w))
     (λ c. search needs)
-    (λ c. (search needs, λ h ws w. w))
+    (λ c. (search needs, λ h q ws w. w))
     loop-holds
     (λ c κs. search needs)
     add-at

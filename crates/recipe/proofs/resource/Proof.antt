@@ -26,7 +26,7 @@ returns-2 c t ns p e b q w =
     let n = g .before .before in
     let a = n .before .before .before .before .args in
     let v : g .from-body .result .cache .0 ≡ refers Resource (a .bytes .now) = ap (λ vs. at vs 0) (g .from-body .ensures) in
-    sym (resource-turn t (a .st) p (a .bytes .now) _ (a .types .now) ns e (n .newest .given .1) (w (sym (kind-home t b Resource q))) ∙ rw (← v, eq-eqb _ _ (c .if1 .taken)))
+    sym (resource-turn t (a .st) p (a .bytes .now) _ (a .types .now) ns e (n .newest .given .1) (w .typed (sym (kind-home t b Resource q))) ∙ rw (← v, eq-eqb _ _ (c .if1 .taken)))
 
 returns-3 : tie.Need-returns-3
 returns-3 c t ns p e b q w =
@@ -35,7 +35,7 @@ returns-3 c t ns p e b q w =
     let n = g .before .before in
     let a = n .before .before .before .before .args in
     let v : g .from-body .result .cache .0 ≡ refers Resource (a .bytes .now) = ap (λ vs. at vs 0) (g .from-body .ensures) in
-    sym (resource-turn t (a .st) p (a .bytes .now) _ (a .types .now) ns e (n .newest .given .1) (w (sym (kind-home t b Resource q)))
+    sym (resource-turn t (a .st) p (a .bytes .now) _ (a .types .now) ns e (n .newest .given .1) (w .typed (sym (kind-home t b Resource q)))
     ∙ rw (← v, ne-eqb _ _ (d .if1 .left), le-ltb _ _ (c .if2 .taken)))
 
 returns-4 : tie.Need-returns-4
@@ -46,7 +46,7 @@ returns-4 c t ns p e b q w =
     let n = g .before .before in
     let a = n .before .before .before .before .args in
     let v : g .from-body .result .cache .0 ≡ refers Resource (a .bytes .now) = ap (λ vs. at vs 0) (g .from-body .ensures) in
-    sym (resource-turn t (a .st) p (a .bytes .now) _ (a .types .now) ns e (n .newest .given .1) (w (sym (kind-home t b Resource q)))
+    sym (resource-turn t (a .st) p (a .bytes .now) _ (a .types .now) ns e (n .newest .given .1) (w .typed (sym (kind-home t b Resource q)))
     ∙ rw (← v, ne-eqb _ _ (d .if1 .left), lt-ltb _ _ (l .if2 .left), failed (c .before .is-cache .ensures) (c .if3 .taken)))
 
 returns-5 : tie.Need-returns-5
@@ -58,7 +58,7 @@ returns-5 c t ns p e b q w =
     let n = g .before .before in
     let a = n .before .before .before .before .args in
     let v : g .from-body .result .cache .0 ≡ refers Resource (a .bytes .now) = ap (λ vs. at vs 0) (g .from-body .ensures) in
-    sym (resource-turn t (a .st) p (a .bytes .now) _ (a .types .now) ns e (n .newest .given .1) (w (sym (kind-home t b Resource q)))
+    sym (resource-turn t (a .st) p (a .bytes .now) _ (a .types .now) ns e (n .newest .given .1) (w .typed (sym (kind-home t b Resource q)))
     ∙ rw (← v, ne-eqb _ _ (d .if1 .left), lt-ltb _ _ (l .if2 .left), passed (k .before .is-cache .ensures) (k .if3 .left), le-leb _ _ (c .if4 .taken)))
 
 returns-6 : tie.Need-returns-6
@@ -72,7 +72,7 @@ returns-6 c t ns p e b q w =
     let a = n .before .before .before .before .args in
     let v : g .from-body .result .cache .0 ≡ refers Resource (a .bytes .now) = ap (λ vs. at vs 0) (g .from-body .ensures) in
     rw (c .grown .ensures)
-    (sym (resource-turn t (a .st) p (a .bytes .now) _ (a .types .now) ns e (n .newest .given .1) (w (sym (kind-home t b Resource q)))
+    (sym (resource-turn t (a .st) p (a .bytes .now) _ (a .types .now) ns e (n .newest .given .1) (w .typed (sym (kind-home t b Resource q)))
     ∙ rw (← v, ne-eqb _ _ (d .if1 .left), lt-ltb _ _ (l .if2 .left), passed (k .before .is-cache .ensures) (k .if3 .left), lt-leb _ _ (f .if4 .left))))
 
 pub resource-spec : {M : Type 1} → statement M

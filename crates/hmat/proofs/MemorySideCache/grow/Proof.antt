@@ -6,7 +6,7 @@ use borrow.Author.Needs.{needs}
 use Rattle.format.specs.Bytes.{le}
 use Rattle.laws.proofs.Bytes.{le-mod}
 use Rattle.hmat.specs.Hmat.{grown}
-use Rattle.hmat.proofs.Places.{over-at}
+use Rattle.laws.proofs.Over.{over-at}
 use Rattle.hmat.proofs.MemorySideCache.grow.Statement.{statement}
 use Rattle.hmat.proofs.MemorySideCache.grow.Tie as tie
 

@@ -1,8 +1,9 @@
 -- `MemorySideCache::is_fixed` meets its contract, test by test.
 use borrow.Author.Needs.{needs}
 use Rattle.laws.proofs.Tests.{both-false}
+use Rattle.laws.proofs.Offsets.{form-known}
 use Rattle.laws.proofs.Fields.{differs, equals}
-use Rattle.hmat.proofs.Fixed.{side-fixed, form-known}
+use Rattle.hmat.proofs.Fixed.{side-fixed}
 use Rattle.hmat.proofs.MemorySideCache.is_fixed.Statement.{statement}
 use Rattle.hmat.proofs.MemorySideCache.is_fixed.Tie as tie
 

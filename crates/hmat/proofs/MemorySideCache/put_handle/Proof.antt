@@ -1,7 +1,7 @@
 -- `MemorySideCache::put_handle` meets its contract: one number at its place.
 use native.Mathlib.Omega.{arith}
 use borrow.Author.Needs.{needs}
-use Rattle.hmat.proofs.Places.{over-at}
+use Rattle.laws.proofs.Over.{over-at}
 use Rattle.hmat.proofs.MemorySideCache.put_handle.Statement.{statement}
 use Rattle.hmat.proofs.MemorySideCache.put_handle.Tie as tie
 

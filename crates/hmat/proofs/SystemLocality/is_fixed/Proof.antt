@@ -2,8 +2,9 @@
 use Prim.Native.Nat.{_-_, _^_}
 use borrow.Author.Needs.{needs}
 use Rattle.laws.proofs.Tests.{both-false}
+use Rattle.laws.proofs.Offsets.{form-known}
 use Rattle.laws.proofs.Fields.{differs, equals}
-use Rattle.hmat.proofs.Fixed.{differs-cut, equals-cut, matrix-fixed, form-known}
+use Rattle.hmat.proofs.Fixed.{differs-cut, equals-cut, matrix-fixed}
 use Rattle.hmat.proofs.SystemLocality.is_fixed.Statement.{statement}
 use Rattle.hmat.proofs.SystemLocality.is_fixed.Tie as tie
 

@@ -2,7 +2,7 @@
 use native.Mathlib.Omega.{arith}
 use borrow.Author.Needs.{needs}
 use Rattle.laws.proofs.Bytes.{over-next}
-use Rattle.hmat.proofs.Places.{over-at}
+use Rattle.laws.proofs.Over.{over-at}
 use Rattle.hmat.proofs.Matrices.{length-front, fresh}
 use Rattle.hmat.proofs.SystemLocality.put.Statement.{statement}
 use Rattle.hmat.proofs.SystemLocality.put.Tie as tie

@@ -5,7 +5,7 @@ use native.Mathlib.Omega.{arith}
 use borrow.Author.Needs.{needs}
 use lib.ListN.{length-replicate}
 use Rattle.laws.proofs.Bytes.{over-next}
-use Rattle.hmat.proofs.Places.{fill-at}
+use Rattle.laws.proofs.Over.{fill-at}
 use Rattle.hmat.proofs.SystemLocality.put_unset.Statement.{statement}
 use Rattle.hmat.proofs.SystemLocality.put_unset.Tie as tie
 

@@ -4,8 +4,8 @@ use Prim.Native.Nat.{ℕ, _*_, _/_, _≤_, _<_}
 use native.Mathlib.Omega.{arith}
 use native.Mathlib.Nat.{zero-mul, mul-comm, mul-le-mul-left, div-lt-iff-lt-mul, div-add-mod'}
 use borrow.Author.Needs.{needs}
-use Rattle.hmat.proofs.behind.Statement.{statement}
-use Rattle.hmat.proofs.behind.Tie as tie
+use Rattle.field.proofs.behind.Statement.{statement}
+use Rattle.field.proofs.behind.Tie as tie
 
 few : (n w k : ℕ) → k ≤ n / w → w * k ≤ n
 few n w k h = omega (arith, mul-le-mul-left w h, mul-comm w (n / w), div-add-mod' n w)

@@ -1,0 +1,10 @@
+-- `XorInterleaveMath::new` meets its contract: what the granularity stands for, and no maps.
+use borrow.Author.Needs.{needs}
+use Rattle.cedt.proofs.XorInterleaveMath.new.Statement.{statement}
+use Rattle.cedt.proofs.XorInterleaveMath.new.Tie as tie
+
+returns : tie.Need-returns
+returns c = rw (c .number .ensures)
+
+pub new-spec : {M : Type 1} → statement M
+new-spec = tie.close (tie.spec (λ c κs. search needs) returns)
