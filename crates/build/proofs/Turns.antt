@@ -41,7 +41,7 @@ use Rattle.cedt.specs.Cedt as maths
 use Rattle.cedt.proofs.Windows.{set-target}
 use Rattle.build.specs.declared.State.{State}
 use Rattle.build.specs.declared.Change.{Change}
-use Rattle.build.specs.Write.{placeIn, appended, unsetMatrix, making, counting, growing, filling, settingAt, sets, setting as setting-of, targetAt, changeOf, wrote}
+use Rattle.build.specs.Write.{placeIn, appended, unsetMatrix, making, growing, filling, settingAt, sets, setting as setting-of, targetAt, changeOf, wrote}
 use Rattle.build.specs.Held.{Counts}
 use Rattle.build.proofs.Agrees.{pptt-agrees, named-place}
 

@@ -6,7 +6,6 @@ use mathlib.Core.Bool.{Bool, true}
 use native.Mathlib.Omega.{arith}
 use native.Mathlib.Nat.{one-le-pow, zero-add, suc-add}
 use lib.ListN.{length, drop, set, replicate, length-append, List·getD-append}
-use lib.Seq.{getD-drop, drop-drop}
 use Rattle.format.specs.Bytes.{at}
 use Rattle.format.specs.Layout.{Item, fix, fld, two, to, orNone, arity, arities, asIs, number, isGood, refsGood}
 use Rattle.laws.proofs.Lays.{Fit, FitItem, Low, both-true, rest-length, item-append}

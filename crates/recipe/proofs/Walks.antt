@@ -1,7 +1,7 @@
 -- The records of a recipe from a place on: one more is cut off and judged, or the cut ends there. What the pass keeps stays true.
 use mathlib.Core.Path.{_≡_, refl, sym, ap, _∙_}
 use Prim.Native.Nat.{ℕ, suc, _+_, _*_, _/_, _%_, _^_, _≤_, _<_}
-use mathlib.Core.List.{List, [], _∷_, _++_}
+use mathlib.Core.List.{List, [], _∷_}
 use mathlib.Core.Bool.{Bool, true, false}
 use mathlib.Core.Option.{Option, none, some}
 use native.Mathlib.Omega.{arith}
@@ -34,7 +34,7 @@ use Rattle.recipe.specs.declared.State.{State}
 use Rattle.recipe.specs.declared.Step.{Step}
 use Rattle.recipe.specs.declared.Step.the-variants.{Next, Refused, BadField}
 use Rattle.recipe.specs.Answers.{number, outlined}
-use Rattle.recipe.specs.Machine.{newestKept, lacks, stateOf, Sound, Begun, endedWith, typesOf, Bits, Typed, Clear, noted, stepped, Knows, TurnsWith, whole, Stands}
+use Rattle.recipe.specs.Machine.{newestKept, lacks, stateOf, Sound, Begun, endedWith, typesOf, Bits, Typed, Clear, noted, stepped, TurnsWith, whole, Stands}
 use Rattle.recipe.proofs.Types.{bits-parts, clear-next, typed-zero, typed-one}
 use Rattle.recipe.proofs.Refers.{length-types}
 use Rattle.recipe.proofs.Steps.{set-turn}

@@ -2,7 +2,6 @@
 use mathlib.Core.Path.{refl, sym}
 use mathlib.Core.List.{[]}
 use native.Mathlib.Omega.{arith}
-use borrow.Author.Needs.{needs}
 use Rattle.laws.proofs.Bytes.{over-past}
 use Rattle.text.proofs.Laws.{laid-as, laid-end}
 use Rattle.blames.proofs.nothing.Statement.{statement}

@@ -1,10 +1,10 @@
 -- `window` meets its contract: a node without references, whose ways' code settles its length.
-use mathlib.Core.Path.{_≡_, refl, sym, ap, _∙_}
+use mathlib.Core.Path.{_≡_, refl, ap, _∙_}
 use native.Mathlib.Omega.{arith}
 use borrow.Author.Needs.{needs}
 use Rattle.format.specs.Bytes.{at}
 use Rattle.format.specs.Layout.{fieldsWith, fields, refsGood}
-use Rattle.format.specs.Form.{window, ways, size, ranges}
+use Rattle.format.specs.Form.{window, ways, ranges}
 use Rattle.format.specs.Node.{node}
 use Rattle.format.specs.Kind.{Window, body}
 use Rattle.format.specs.Recipe.{step}

@@ -1,7 +1,7 @@
 -- `Newest::lacks` meets its contract: only a window lacks entries, and only a target is one of them.
 use mathlib.Core.Path.{_≡_, refl, sym}
-use mathlib.Core.List.{List, [], _∷_}
-use mathlib.Core.Bool.{Bool, false}
+use mathlib.Core.List.{[], _∷_}
+use mathlib.Core.Bool.{false}
 use mathlib.Core.Option.{Option, some}
 use denote.Enum.Declared.{tagOf}
 use types.Run.{OneOf, miss}
