@@ -116,6 +116,11 @@ size_t acpi_first_place(const uint8_t *table, size_t table_len);
 /* The record at a place of an accepted table, as numbers; the next one starts behind it. So a table is listed that was judged once. */
 void acpi_record_at(const uint8_t *table, size_t table_len, uint32_t mask, size_t place, uint64_t *answer, size_t answer_len);
 
+/* The plain sum of all the bytes that are lent, the checksum's too, modulo 2^64; high gets how often 2^64 goes into it: 0 for fewer than
+ * 2^56 bytes, so for all that a machine holds. Refuses nothing. A table's checksum is right where the sum of its own bytes, as many as its
+ * length says, is a multiple of 256. */
+uint64_t acpi_sum(const uint8_t *bytes, size_t bytes_len, uint64_t *high);
+
 #ifdef __cplusplus
 }
 #endif

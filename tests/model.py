@@ -1,4 +1,4 @@
-"""A reading of documents 01 and 02 in another language: pure functions on bytes, sharing no code with the crates. Of document 02: orders 1 and 2."""
+"""A reading of documents 01 and 02 in another language: pure functions on bytes, sharing no code with the crates. Of document 02: orders 1 to 3."""
 LIMIT = 1 << 20
 NAMES = (b'PPTT', b'SRAT', b'HMAT', b'CEDT')
 FRONT = (36, 48, 40, 36)
@@ -727,3 +727,26 @@ def listing(whole):
     for typ, p, size, row, _ in recs:
         o.append(b'%d %d %d %s\n' % (p, typ, size, b'unknown' if row is None else b'known'))
     return b''.join(o)
+
+
+# ---------------------------------------------------------------- the sum, and sumtab
+
+def total(b):
+    """the plain sum of the bytes"""
+    return sum(b)
+
+
+def checked(b):
+    """what sumtab says of the checksum, as lines; the table is as long as it says, and bytes may stand behind it"""
+    length = le(b[4:8])
+    if len(b) < 36 or not 36 <= length <= len(b):
+        return [b'no whole table']
+    said = [b'checksum wrong' if total(b[:length]) % 256 else b'checksum right']
+    if length < len(b):
+        said.append(b'bytes behind the table %d' % (len(b) - length))
+    return said
+
+
+def summed(b):
+    n = total(b)
+    return b''.join(line + b'\n' for line in [b'sum %d' % n, b'remainder %d' % (n % 256)] + checked(b))

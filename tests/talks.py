@@ -58,6 +58,9 @@ def answer(line):
         if words[0] == 'read' and len(words) == 4:
             mask, n, b = number(words[1], 2 ** 32 - 1), number(words[2], 2 ** 64 - 1), data(words[3])
             return 'too long' if len(b) > MOST else seen(b, mask, n)
+        if words[0] == 'sum' and len(words) == 2:
+            b = data(words[1])
+            return 'too long' if len(b) > MOST else 'sum %d' % model.total(b)
     except ValueError:
         pass
     return 'what?'

@@ -1,5 +1,5 @@
 //! bench CALL INPUT TURNS [MASK]: makes a call TURNS times and prints the shortest time in nanoseconds.
-//! INPUT is a shape: CALL is of its recipe (crate, build, check) or of its table (accept, out), and has to be good.
+//! INPUT is a shape: CALL is of its recipe (crate, build, check) or of its table (accept, out, sum), and has to be good.
 //! Or it is file:PATH, the bytes themselves, where any answer will do: its number and place are printed before the time. Then CALL may
 //! be read (the last record) and list (each record by its place) too, and MASK has the rows that a reader knows.
 //! Each call stands in a function of its own, so that instructions can be counted in it.
@@ -16,6 +16,7 @@ extern "C" {
     fn acpi_read(table: *const u8, len: usize, mask: u32, n: usize, answer: *mut u64, answer_len: usize, place: *mut usize) -> u32;
     fn acpi_first_place(table: *const u8, len: usize) -> usize;
     fn acpi_record_at(table: *const u8, len: usize, mask: u32, place: usize, answer: *mut u64, answer_len: usize);
+    fn acpi_sum(bytes: *const u8, len: usize, high: *mut u64) -> u64;
 }
 
 /// What a record's answer has: so many numbers, and its length among them.
@@ -100,6 +101,14 @@ fn measured_list(table: &[u8], lent: &mut Lent) -> Answer {
     (0, count)
 }
 
+#[no_mangle]
+#[inline(never)]
+fn measured_sum(table: &[u8], _lent: &mut Lent) -> Answer {
+    let mut high = 0;
+    let sum = unsafe { acpi_sum(table.as_ptr(), table.len(), &mut high) };
+    (high as u32, sum as usize)
+}
+
 /// The table of a recipe; it has to be the crate's, so that both do the same work. An SRAT's revision and checksum are set aside.
 fn table(recipe: &[u8], lent: &mut Lent) -> Vec<u8> {
     let (number, n) = measured_build(recipe, lent);
@@ -123,6 +132,7 @@ fn call_of(name: &str) -> (Call, bool) {
         "out" => (measured_out, false),
         "read" => (measured_read, false),
         "list" => (measured_list, false),
+        "sum" => (measured_sum, false),
         other => panic!("no call named {other}"),
     }
 }

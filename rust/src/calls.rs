@@ -17,6 +17,7 @@ extern "C" {
     ) -> u32;
     fn acpi_first_place(table: *const u8, table_len: usize) -> usize;
     fn acpi_record_at(table: *const u8, table_len: usize, mask: u32, place: usize, answer: *mut u64, answer_len: usize);
+    fn acpi_sum(bytes: *const u8, bytes_len: usize, high: *mut u64) -> u64;
 }
 
 /// The mask of all rows.
@@ -70,6 +71,14 @@ pub fn read(table: &[u8], mask: u32, n: usize) -> Result<Record<'_>, Refusal> {
     let number = unsafe { acpi_read(table.as_ptr(), table.len(), mask, n, numbers.as_mut_ptr(), ANSWER, &mut place) };
     let count = answer(number, place)?;
     Ok(Record::of(table, count, &numbers))
+}
+
+/// The plain sum of all the bytes, the checksum's too. A table's checksum is right where the sum of its own bytes, as many as its
+/// length says, is a multiple of 256.
+pub fn sum(bytes: &[u8]) -> u128 {
+    let mut high = 0;
+    let low = unsafe { acpi_sum(bytes.as_ptr(), bytes.len(), &mut high) };
+    u128::from(high) << 64 | u128::from(low)
 }
 
 /// The records of a table, one after the other: it is judged once.

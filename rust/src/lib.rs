@@ -16,7 +16,7 @@ mod recipe;
 pub mod srat;
 
 pub use answers::{Node, Record, Refusal};
-pub use calls::{accept, build, check, read, read_out, records, Records, EVERY, LIMIT};
+pub use calls::{accept, build, check, read, read_out, records, sum, Records, EVERY, LIMIT};
 
 /// The creator fields that the tables of [`pptt`], [`srat`], [`hmat`] and [`cedt`] have, as acpi_tables has them.
 pub const CREATOR_ID: [u8; 4] = *b"RVAT";

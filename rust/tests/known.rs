@@ -5,7 +5,7 @@ use acpi_tables::cedt::{self, CxlFixedMemory, CxlHostBridge, CxlVersion, Interle
 use acpi_tables::hmat::{self, MemoryProximityDomain, MemorySideCache, SystemLocality, HMAT};
 use acpi_tables::pptt::{self, CacheNodeBuilder, ProcessorNode, PPTT};
 use acpi_tables::srat::{GenericInitiator, Handle, MemoryAffinity, RintcAffinity, SRAT};
-use acpi_tables::{accept, build, check, read, read_out, records, Aml, Node, Refusal, EVERY};
+use acpi_tables::{accept, build, check, read, read_out, records, sum, Aml, Node, Refusal, EVERY};
 
 #[path = "../../tests/same.rs"]
 mod same;
@@ -235,6 +235,21 @@ fn cases_of_document_01() {
     assert_eq!(out[..], recipe);
     assert_eq!(build(&[], &mut []), Err(Refusal { number: 1, place: 0 }));
     assert_eq!(read_out(&table, &mut out[..67]), Err(Refusal { number: 31, place: 68 }));
+}
+
+/// Of no bytes; past 2^32; of case C1, a PPTT without nodes, as it is, with bytes behind it and with a byte changed.
+#[test]
+fn whole_sums() {
+    assert_eq!(sum(&[]), 0);
+    assert_eq!(sum(&vec![0xff; 16_843_010]), 4_294_967_550);
+    let mut recipe = [0; 28];
+    recipe[0] = 1;
+    let mut table = [1; 39];
+    assert_eq!(build(&recipe, &mut table), Ok(36));
+    assert_eq!((sum(&table[..36]), accept(&table[..36], EVERY)), (512, Ok(0)));
+    assert_eq!((sum(&table), accept(&table, EVERY)), (515, Ok(0)));
+    table[35] += 1;
+    assert_eq!((sum(&table[..36]), accept(&table[..36], EVERY)), (513, Err(Refusal { number: 23, place: 0 })));
 }
 
 #[test]

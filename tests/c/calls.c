@@ -1,4 +1,5 @@
-/* Builds case C3 and a CEDT, reads them and reads them out through the library; refusals too. Exit status 1 at the first difference. */
+/* Builds case C3 and a CEDT, reads them and reads them out through the library; refusals too; adds up bytes. Exit status 1 at the first
+ * difference. */
 #include "acpi.h"
 #include <stdio.h>
 #include <stdlib.h>
@@ -176,6 +177,36 @@ static void ways(void)
     expect("the target", place, SECOND_TARGET);
 }
 
+/* the sum, which fits */
+static uint64_t sum(const uint8_t *bytes, size_t length)
+{
+    uint64_t high = 99;
+    uint64_t low = acpi_sum(bytes, length, &high);
+    expect("how often 2^64 goes into the sum", high, 0);
+    return low;
+}
+
+/* of no bytes; past 2^32; of case C1, a head of zeros alone, as it is, with bytes behind it and with a byte changed */
+static void sums(void)
+{
+    static uint8_t many[16843010];
+    size_t place = 99;
+    uint8_t table[39];
+    memset(many, 0xff, sizeof many);
+    memset(table, 1, sizeof table);
+    expect("the sum of nothing", sum(many, 0), 0);
+    expect("a sum past 2^32", sum(many, sizeof many), 4294967550);
+    expect("build", acpi_build(recipe, 28, table, sizeof table, &place), 0);
+    expect("length", place, 36);
+    expect("sum", sum(table, 36), 512);
+    expect("a sum that is accepted", acpi_accept(table, 36, ACPI_EVERY, &place), 0);
+    expect("sum with three bytes behind", sum(table, sizeof table), 515);
+    expect("bytes behind that are not read", acpi_accept(table, sizeof table, ACPI_EVERY, &place), 0);
+    table[35]++;
+    expect("sum with a byte changed", sum(table, 36), 513);
+    expect("a sum that is refused", acpi_accept(table, 36, ACPI_EVERY, &place), ACPI_BAD_SUM);
+}
+
 int main(void)
 {
     uint8_t table[100];
@@ -187,6 +218,7 @@ int main(void)
     reads_out(table);
     windows();
     ways();
-    puts("built, read, listed and read out");
+    sums();
+    puts("built, read, listed, read out and added up");
     return 0;
 }

@@ -10,6 +10,7 @@ use Rattle.acpi.proofs.acpi_accept.Reads as acpi-accept
 use Rattle.acpi.proofs.acpi_first_place.Reads as acpi-first-place
 use Rattle.acpi.proofs.acpi_record_at.Reads as acpi-record-at
 use Rattle.acpi.proofs.acpi_read.Reads as acpi-read
+use Rattle.acpi.proofs.acpi_sum.Reads as acpi-sum
 
 -- ---- the contracts
 
@@ -22,6 +23,7 @@ pub record Unique : Type 0 where
   acpi-first-place : Fixes acpi-first-place.Learnt (λ k x p. x)
   acpi-record-at : Fixes acpi-record-at.Learnt (λ k x p. p .1 .1 .1 .0 .now)
   acpi-read : Fixes {S = ℕ × (List ℕ × ℕ)} acpi-read.Learnt (λ k x p. (x, (p .1 .1 .1 .0 .now, p .1 .1 .1 .1 .0 .now)))
+  acpi-sum : Fixes {S = ℕ × ℕ} acpi-sum.Learnt (λ k x p. (x, p .1 .0 .now))
 
 pub unique : Unique
 unique =
@@ -33,4 +35,5 @@ unique =
       acpi-first-place = λ k a x y p q. sole;
       acpi-record-at = λ k a x y p q. sole;
       acpi-read = λ k a x y p q l m. sole-pair (sole (l .0) (m .0)) (sole-pair (sole (l .1 .1) (m .1 .1)) (sole (l .1 .0) (m .1 .0)));
+      acpi-sum = λ k a x y p q l m. sole-pair (sole (l .0) (m .0)) (sole (l .1) (m .1));
     }

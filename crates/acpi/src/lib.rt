@@ -1,8 +1,9 @@
 // What a VMM links: the calls under plain names, for C and Rust. include/acpi.h declares them.
-// Each answers a refusal's number, 0 for none; place gets the refusal's place, or the number that was asked for.
+// Each that may refuse answers a refusal's number, 0 for none; place gets the refusal's place, or the number that was asked for.
 ghost use mathlib.Core.Path.{_≡_};
+ghost use Prim.Native.Nat.{_/_, _%_, _^_};
 ghost use lib.ListN.{length};
-ghost use Rattle.format.specs.Bytes.{over};
+ghost use Rattle.format.specs.Bytes.{over, sum};
 ghost use Rattle.format.specs.Build.{build, built};
 ghost use Rattle.format.specs.Out.{readOut, outWritten};
 ghost use Rattle.format.specs.Read.{readingOf};
@@ -143,4 +144,20 @@ pub extern "C" fn acpi_read(
             refusal.number()
         }
     }
+}
+
+// ---- the sum
+
+// What a Whole's high is divided by for a word of 64 bits, low being eight of them.
+const HIGH: u64 = 72057594037927936;
+
+// The whole sum of the bytes modulo 2^64; high gets how often 2^64 goes into it.
+#[no_mangle]
+pub extern "C" fn acpi_sum(bytes: &[u8], high: &mut u64) -> u64
+    ensures { λ r. ⌜ r ≡ sum (now (bytes .entry)) % 2 ^ 64 ⌝ }
+    ensures { λ _. ⌜ now (high .exit) ≡ sum (now (bytes .entry)) / 2 ^ 64 ⌝ }
+{
+    let sum = field::u8sum(bytes);
+    *high = sum.high / HIGH;
+    sum.high % HIGH * 256 + sum.low as u64
 }

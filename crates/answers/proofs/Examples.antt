@@ -12,16 +12,16 @@ use Rattle.format.specs.Build.{records, header, summed, tableFrom, build, table
 use Rattle.format.specs.Normal.{each, eachSet, settings, calls, callsOf, recipeOf, normal}
 use Rattle.format.specs.Read.{headFault, judgeHead, framed, frames, sound, recordFault, walk, walked, accept, shown, listIn, fieldsOf, partOf, read, readPart}
 use Rattle.format.specs.Out.{nodesFrom, outOf, meaningOf, readOut, recipe, outWritten}
-use Rattle.format.specs.Listing.{digits, refusedWords}
+use Rattle.format.specs.Listing.{digits, refusedWords, sumWords}
 use Rattle.text.specs.Text as shown
 use Rattle.talk.specs.Words.{spaceIn, callIn}
 use Rattle.talk.specs.Numbers.{stepTo, numberFrom, numberIn}
 use Rattle.talk.specs.Hex.{valueOf, allHex, pairOf, pairs, dataIn, allAre}
-use Rattle.answers.specs.Lines.{refusal, success, told, carriedOut, content, ending, found, seen, writing, asking, answerTo}
+use Rattle.answers.specs.Lines.{refusal, success, told, carriedOut, content, ending, found, seen, total, writing, asking, adding, answerTo}
 use Rattle.answers.specs.Examples.{Examples}
 
 pub examples : Examples
-unfolding le value part over sum same width layWith fieldsWith fixedOk refsGood layout registers ways cacheAttributes matrixFlags sideAttributes ranges column matches rowOf formIn kindOf body bytes nodeAt sizes starts atPlace isOrdinal atOrdinal placeOf ordinalOf cutAs cut joined setting unset step fault firstBad faultAt lacking run headed meaning records header summed tableFrom build table written built each eachSet settings calls callsOf recipeOf normal headFault judgeHead framed frames sound recordFault walk walked accept shown listIn fieldsOf partOf read readPart nodesFrom outOf meaningOf readOut recipe outWritten digits refusedWords shown.glyph shown.pairs shown.hexed shown.others shown.listed spaceIn callIn stepTo numberFrom numberIn valueOf allHex pairOf pairs dataIn allAre refusal success told carriedOut content ending found seen writing asking answerTo
+unfolding le value part over sum same width layWith fieldsWith fixedOk refsGood layout registers ways cacheAttributes matrixFlags sideAttributes ranges column matches rowOf formIn kindOf body bytes nodeAt sizes starts atPlace isOrdinal atOrdinal placeOf ordinalOf cutAs cut joined setting unset step fault firstBad faultAt lacking run headed meaning records header summed tableFrom build table written built each eachSet settings calls callsOf recipeOf normal headFault judgeHead framed frames sound recordFault walk walked accept shown listIn fieldsOf partOf read readPart nodesFrom outOf meaningOf readOut recipe outWritten digits refusedWords sumWords shown.glyph shown.pairs shown.hexed shown.others shown.listed spaceIn callIn stepTo numberFrom numberIn valueOf allHex pairOf pairs dataIn allAre refusal success told carriedOut content ending found seen total writing asking adding answerTo
 examples =
     record {
       ok-build = refl;
@@ -64,6 +64,11 @@ examples =
       row-9 = refl;
       row-10 = refl;
       row-unknown = refl;
+      sum-none = refl;
+      sum-table = refl;
+      sum-more = refl;
+      sum-odd = refl;
+      sum-words = refl;
       mask-over = refl;
       no-data = refl;
       no-line = refl;

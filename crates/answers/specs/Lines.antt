@@ -5,12 +5,12 @@ use mathlib.Core.Bool.{Bool, true, false}
 use mathlib.Core.Option.{Option, none, some}
 use lib.Dec.{eqb}
 use lib.ListN.{length, take, drop, replicate}
-use Rattle.format.specs.Bytes.{pick, Answer, refused, given}
+use Rattle.format.specs.Bytes.{pick, Answer, refused, given, sum}
 use Rattle.format.specs.Row.{Row, rowNumber}
 use Rattle.format.specs.Build.{build, built}
 use Rattle.format.specs.Out.{readOut, outWritten, every}
 use Rattle.format.specs.Read.{Reading, reading, read, readPart}
-use Rattle.format.specs.Listing.{digits, spaced, refusedWords}
+use Rattle.format.specs.Listing.{digits, spaced, refusedWords, sumWords}
 use Rattle.text.specs.Text.{text, hexed, listed}
 use Rattle.talk.specs.declared.Call.{Call}
 use Rattle.talk.specs.declared.Call.the-variants as call
@@ -89,6 +89,12 @@ unfoldable pub seen : Answer Reading → List ℕ → List ℕ
 seen (refused n p) bs = refusal n p true
 seen (given r) bs = found r bs
 
+-- ---- adding up
+
+-- sum N
+unfoldable pub total : List ℕ → List ℕ
+total bs = sumWords (sum bs) ++ text "\n"
+
 -- ---- the request
 
 -- f of a number; where a word is none, what that is answered
@@ -113,11 +119,16 @@ asking taken ws =
     let rest : List ℕ = behindIn ws in
     ofNumber (numberIn every (wordIn ws)) (λ mask. ofNumber (numberIn (2 ^ 64 - 1) (wordIn rest)) (λ n. ofBytes (dataIn taken (behindIn rest)) (behindIn rest) (λ b. seen (read b mask n) (readPart b mask n))))
 
+-- the word behind 'sum', HEX
+unfoldable pub adding : ℕ → List ℕ → List ℕ
+adding taken ws = ofBytes (dataIn taken ws) ws total
+
 -- by the call that the first word names
 abbrev pub named : ℕ → ℕ → Call → List ℕ → List ℕ
 named taken lends call.Build ws = writing taken lends true ws
 named taken lends call.Out ws = writing taken lends false ws
 named taken lends call.Read ws = asking taken ws
+named taken lends call.Sum ws = adding taken ws
 named taken lends call.Other ws = what
 
 -- the answer to a line

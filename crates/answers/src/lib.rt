@@ -4,7 +4,7 @@ ghost use lib.ListN.{length, replicate};
 ghost use Rattle.format.specs.Read as format;
 ghost use Rattle.text.specs.Text.{laid, listed};
 ghost use Rattle.read.specs.Answers.{rowIn, fieldsIn, shownAs};
-ghost use Rattle.answers.specs.Lines.{what, tooLong, keptIf, refusal, fill, success, toldBy, carriedOut, lent as lentFor, content, ending, found, seen, writing, asking, answerTo};
+ghost use Rattle.answers.specs.Lines.{what, tooLong, keptIf, refusal, fill, success, toldBy, carriedOut, lent as lentFor, content, ending, found, seen, total, writing, asking, adding, answerTo};
 use read::Node;
 use read::Reply;
 use read::Shown;
@@ -200,6 +200,30 @@ fn ask(words: &[u8], given: &mut [u8], text: &mut [u8]) -> usize
     }
 }
 
+// ---- adding up
+
+// The sum of some bytes.
+fn total(bytes: &[u8], text: &mut [u8]) -> usize
+    ensures { λ r. ⌜ (r, now (text .exit)) ≡ laid (now (text .entry)) 0 (total (now (bytes .entry))) ⌝ }
+{
+    let n = text::summed(text, 0, field::u8sum(bytes));
+    text::byte(text, n, b'\n')
+}
+
+// The word behind 'sum': bytes.
+fn add_up(digits: &[u8], given: &mut [u8], text: &mut [u8]) -> usize
+    ensures { λ r. ⌜ (r, now (text .exit)) ≡ laid (now (text .entry)) 0 (adding (length (now (given .entry))) (now (digits .entry))) ⌝ }
+{
+    match talk::count(digits, given.len()) {
+        Data::Count(len) => {
+            talk::unhex(digits, given);
+            total(frames::first(given, len), text)
+        }
+        Data::TooLong => too_long(text),
+        Data::Other => what(text),
+    }
+}
+
 // ---- a line
 
 // The answer to a line, at the beginning of a text. Lent are room for the bytes that it has, and for what a call writes.
@@ -211,6 +235,7 @@ pub fn answer(line: &[u8], given: &mut [u8], lent: &mut [u8], text: &mut [u8]) -
         Call::Build => write(true, words, given, lent, text),
         Call::Out => write(false, words, given, lent, text),
         Call::Read => ask(words, given, text),
+        Call::Sum => add_up(words, given, text),
         Call::Other => what(text),
     }
 }

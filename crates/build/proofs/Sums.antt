@@ -11,6 +11,7 @@ use Rattle.format.specs.Table.{Head}
 use Rattle.format.specs.Build.{header, checkOf}
 use Rattle.laws.proofs.Bytes.{drop-turn, over-fits, sum-append}
 use Rattle.laws.proofs.Over.{part-within}
+use Rattle.laws.proofs.Checks.{derived, check-sum}
 
 -- what was laid over a buffer
 pub part-over : (bs : List ℕ) (p : ℕ) (cs : List ℕ) → p + length cs ≤ length bs → part (over bs p cs) p (length cs) ≡ cs
@@ -37,9 +38,6 @@ unfolding header sum le
 sum-front h len rs = simp sum-append (omega arith)
 
 -- ---- plain numbers
-
-zero-sum : (b : ℕ) → (b + checkOf b) % 256 ≡ 0
-zero-sum b = omega arith
 
 shift : (a b x : ℕ) → a ≡ b % 256 → (a + x) % 256 ≡ (b + x) % 256
 shift a b x e = omega arith
@@ -91,7 +89,7 @@ together : (a x y z w : ℕ) → (a + x + y + z + w) % 256 ≡ (a + (x + y + z +
 together a x y z w = ap (λ (n : ℕ). n % 256) (omega arith)
 
 -- old bytes b and old length l go, new bytes c, more bytes d and the new length m come
-balance : (k l s b c d m z bb ll : ℕ) → z + b ≡ s + c + d → (b + bb) % 256 ≡ 0 → (l + ll) % 256 ≡ 0
+balance : (k l s b c d m z bb ll : ℕ) → z + b ≡ s + c + d → (bb + b) % 256 ≡ 0 → (ll + l) % 256 ≡ 0
     → (k + l + s + bb + (c + d + ll + m)) % 256 ≡ (k + m + z) % 256
 balance k l s b c d m z bb ll e f g = omega arith
 
@@ -101,7 +99,7 @@ sum-moves k l s b c d m z v w u ev ew eu e =
     let bb = checkOf b in
     let ll = checkOf l in
     let x : w ≡ (k + l + s + bb) % 256 = ew ∙ shift v (k + l + s) bb ev in
-    eu ∙ together w c d ll m ∙ shift w (k + l + s + bb) (c + d + ll + m) x ∙ balance k l s b c d m z bb ll e (zero-sum b) (zero-sum l)
+    eu ∙ together w c d ll m ∙ shift w (k + l + s + bb) (c + d + ll + m) x ∙ balance k l s b c d m z bb ll e (check-sum b) (check-sum l)
 
 -- ---- two bytes
 
@@ -109,14 +107,11 @@ sum-two : (bs : List ℕ) (p : ℕ) → p + 2 ≤ length bs → sum (part bs p 2
 unfolding part sum
 sum-two bs p h = rw (drop-turn bs p (omega arith), drop-turn bs (p + 1) (omega arith), add-zero)
 
-opposite : (n k : ℕ) → (n + k) % 256 ≡ 0 → k % 256 ≡ checkOf n
-opposite n k e = omega arith
-
-sum-of-zeros : (a b x y : ℕ) → (a + x) % 256 ≡ 0 → (b + y) % 256 ≡ 0 → (a + b + (x + y)) % 256 ≡ 0
+sum-of-zeros : (a b x y : ℕ) → (x + a) % 256 ≡ 0 → (y + b) % 256 ≡ 0 → ((x + y) % 256 + (a + b)) % 256 ≡ 0
 sum-of-zeros a b x y e f = omega arith
 
 less : (a b : ℕ) → (checkOf a + checkOf b) % 256 ≡ checkOf (a + b)
-less a b = opposite (a + b) (checkOf a + checkOf b) (sum-of-zeros a b (checkOf a) (checkOf b) (zero-sum a) (zero-sum b))
+less a b = derived ((checkOf a + checkOf b) % 256) (a + b) (omega arith) .0 (sum-of-zeros a b (checkOf a) (checkOf b) (check-sum a) (check-sum b))
 
 exchange : (v x y z : ℕ) → (x + y) % 256 ≡ z → (v + x + y) % 256 ≡ (v + z) % 256
 exchange v x y z e = omega arith

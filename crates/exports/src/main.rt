@@ -72,6 +72,16 @@ fn of_recipe(recipe: &[u8], table: &mut [u8]) {
     told(b"build", built, place);
 }
 
+// A line: the sum of a table's bytes, and what passes 64 bits.
+fn added(table: &[u8]) {
+    let mut high: u64 = 1;
+    let sum = acpi::acpi_sum(table, &mut high);
+    io::write_all(STDOUT_FILENO, b"sum");
+    number(sum);
+    number(high);
+    io::write_all(STDOUT_FILENO, b"\n");
+}
+
 // The calls on a table, of which the last writes the recipe.
 fn of_table(table: &[u8], recipe: &mut [u8]) {
     let mut place: usize = 0;
@@ -84,6 +94,7 @@ fn of_table(table: &[u8], recipe: &mut [u8]) {
     listed(b"record", record);
     acpi::acpi_record_at(table, MASK, acpi::acpi_first_place(table), &mut first);
     listed(b"first", first);
+    added(table);
     let out = acpi::acpi_read_out(table, recipe, &mut place);
     told(b"read_out", out, place);
 }

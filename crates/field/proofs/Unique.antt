@@ -16,6 +16,8 @@ use Rattle.field.proofs.get_u64.Reads as get-u64
 use Rattle.field.proofs.copy.Reads as copy
 use Rattle.field.proofs.copy_u64.Reads as copy-u64
 use Rattle.field.proofs.fill.Reads as fill
+use Rattle.field.proofs.Whole.tenth.Reads as Whole-tenth
+use Rattle.field.proofs.Whole.digit.Reads as Whole-digit
 use Rattle.field.proofs.u8sum.Reads as u8sum
 
 -- ---- the contracts
@@ -37,6 +39,8 @@ pub record Unique : Type 0 where
   copy : Fixes copy.Learnt (λ k x p. p .0 .now)
   copy-u64 : Fixes copy-u64.Learnt (λ k x p. p .0 .now)
   fill : Fixes fill.Learnt (λ k x p. p .0 .now)
+  Whole-tenth : Fixes Whole-tenth.Learnt (λ k x p. x)
+  Whole-digit : Fixes Whole-digit.Learnt (λ k x p. x)
   u8sum : Fixes u8sum.Learnt (λ k x p. x)
 
 pub unique : Unique
@@ -57,5 +61,7 @@ unique =
       copy = λ k a x y p q. sole;
       copy-u64 = λ k a x y p q. sole;
       fill = λ k a x y p q. sole;
+      Whole-tenth = λ k a x y p q. sole;
+      Whole-digit = λ k a x y p q. sole;
       u8sum = λ k a x y p q. sole;
     }

@@ -1,9 +1,10 @@
 // Numbers and byte strings, laid into a buffer and read out of one, the lowest byte first.
 // Any place is allowed: what would reach past the end is left out, and what is read there counts as 0.
 ghost use mathlib.Core.Path.{_≡_};
-ghost use Prim.Native.Nat.{_+_, _-_, _*_, _%_, _^_, _≤_, _<_, min};
+ghost use Prim.Native.Nat.{_+_, _-_, _*_, _/_, _%_, _^_, _≤_, _<_, min};
 ghost use lib.ListN.{length, drop, replicate};
 ghost use Rattle.format.specs.Bytes.{le, value, join, part, over, sum};
+ghost use Rattle.field.specs.Whole.{numberOf, wholeOf};
 
 // How many of n bytes from a place on stand before the end.
 fn fitting(len: usize, at: usize, n: usize) -> usize
@@ -320,15 +321,61 @@ pub fn fill(out: &mut [u8], at: usize, n: usize, v: u8)
     }
 }
 
-// The sum of the bytes, modulo 256.
-pub fn u8sum(s: &[u8]) -> u8
-    ensures { λ r. ⌜ r ≡ sum (now (s .entry)) % 256 ⌝ }
+// ---- sums
+
+// A whole number that may pass 64 bits: high times 256 and low. It holds the sum of every slice: each byte adds at most one to high,
+// and a slice has fewer bytes than a u64 counts.
+pub struct Whole {
+    pub high: u64,
+    pub low: u8,
+}
+
+impl Whole {
+    // What the number has but for its tens.
+    fn units(self) -> u64
+        ensures { λ r. ⌜ r ≡ self .high % 10 * 256 + self .low ⌝ }
+    {
+        self.high % 10 * 256 + self.low as u64
+    }
+
+    // The number without its last decimal digit.
+    pub fn tenth(self) -> Whole
+        ensures { λ r. ⌜ r ≡ wholeOf (numberOf self / 10) ⌝ }
+    {
+        Whole {
+            high: self.high / 10,
+            low: (self.units() / 10) as u8,
+        }
+    }
+
+    // Its last decimal digit.
+    pub fn digit(self) -> u8
+        ensures { λ r. ⌜ r ≡ numberOf self % 10 ⌝ }
+    {
+        (self.units() % 10) as u8
+    }
+}
+
+// What two bytes carry over.
+fn carry(a: u8, b: u8) -> u64
+    ensures { λ r. ⌜ r ≡ (a + b) / 256 ⌝ }
+    ensures little { λ r. ⌜ r ≤ 1 ⌝ }
 {
-    let mut value: u8 = 0;
+    (a as u64 + b as u64) / 256
+}
+
+// The sum of the bytes, whole.
+pub fn u8sum(s: &[u8]) -> Whole
+    ensures { λ r. ⌜ r ≡ wholeOf (sum (now (s .entry))) ⌝ }
+{
+    let mut high: u64 = 0;
+    let mut low: u8 = 0;
     let mut i = 0;
     while i < s.len() {
-        value = std::num::wrapping_add_u8(value, s[i]);
+        let b = s[i];
+        high += carry(low, b);
+        low = std::num::wrapping_add_u8(low, b);
         i += 1;
     }
-    value
+    Whole { high, low }
 }

@@ -1,15 +1,15 @@
 -- The header: two byte strings compared one by one, and the tests of a header in the order in which the code makes them.
 use mathlib.Core.Path.{_≡_, refl, ap, _∙_}
-use Prim.Native.Nat.{ℕ, suc, _+_, _%_, _≤_, _<_}
+use Prim.Native.Nat.{ℕ, suc, _+_, _≤_, _<_}
 use mathlib.Core.List.{List, [], _∷_}
 use mathlib.Core.Bool.{Bool, true, false, not}
 use lib.ListN.{length, drop, drop-of-length-le}
 use lib.Dec.{eqb, leb}
 use borrow.Author.Tests.{le-leb}
-use Rattle.format.specs.Bytes.{pick, both, all, firstOf, at, same, sum}
+use Rattle.format.specs.Bytes.{pick, both, all, firstOf, at, same}
 use Rattle.format.specs.Layout.{fixedOk}
 use Rattle.format.specs.Table.{Table, tail, front, limit}
-use Rattle.format.specs.Read.{lengthIn, own, headFault}
+use Rattle.format.specs.Read.{lengthIn, right, headFault}
 use Rattle.laws.proofs.Tests.{both-false}
 use Rattle.laws.proofs.Bytes.{drop-turn}
 
@@ -41,12 +41,12 @@ tests true true true true true = refl
 
 module _ (t : Table) (b : List ℕ) where
   pub head-fault : headFault t b
-      ≡ pick (leb (front t) (lengthIn b)) (pick (leb (lengthIn b) (length b)) (pick (leb (lengthIn b) limit) (pick (eqb (sum (own b) % 256) 0) (pick (fixedOk (tail t) (drop 36 b)) 0 24) 23) 22) 22) 22
+      ≡ pick (leb (front t) (lengthIn b)) (pick (leb (lengthIn b) (length b)) (pick (leb (lengthIn b) limit) (pick (right b) (pick (fixedOk (tail t) (drop 36 b)) 0 24) 23) 22) 22) 22
   unfolding headFault
-  head-fault = tests (leb (front t) (lengthIn b)) (leb (lengthIn b) (length b)) (leb (lengthIn b) limit) (eqb (sum (own b) % 256) 0) (fixedOk (tail t) (drop 36 b))
+  head-fault = tests (leb (front t) (lengthIn b)) (leb (lengthIn b) (length b)) (leb (lengthIn b) limit) (right b) (fixedOk (tail t) (drop 36 b))
 
   -- where the length n is good, sum and front are left to test
-  pub head-long : (n f : ℕ) → n ≡ lengthIn b → f ≡ front t → f ≤ n → n ≤ length b → n ≤ limit → headFault t b ≡ pick (eqb (sum (own b) % 256) 0) (pick (fixedOk (tail t) (drop 36 b)) 0 24) 23
+  pub head-long : (n f : ℕ) → n ≡ lengthIn b → f ≡ front t → f ≤ n → n ≤ length b → n ≤ limit → headFault t b ≡ pick (right b) (pick (fixedOk (tail t) (drop 36 b)) 0 24) 23
   head-long n f i j k l m =
       let x : front t ≤ lengthIn b = rw (← i, ← j) k in
       let y : lengthIn b ≤ length b = rw (← i) l in

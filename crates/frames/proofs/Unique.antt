@@ -22,6 +22,7 @@ use Rattle.frames.proofs.first.Reads as first
 use Rattle.frames.proofs.same.Reads as same
 use Rattle.frames.proofs.signed.Reads as signed
 use Rattle.frames.proofs.own.Reads as own
+use Rattle.frames.proofs.right.Reads as right
 use Rattle.frames.proofs.judge_head.Reads as judge-head
 use Rattle.frames.proofs.short_type.Reads as short-type
 use Rattle.frames.proofs.long_type.Reads as long-type
@@ -88,6 +89,7 @@ pub record Unique : Type 0 where
   same : Fixes same.Learnt (λ k x p. x)
   signed : Fixes signed.Learnt (λ k x p. x)
   own : Fixes own.Learnt (λ k x p. x .now)
+  right : Fixes right.Learnt (λ k x p. x)
   judge-head : Fixes judge-head.Learnt (λ k x p. x)
   short-type : Fixes short-type.Learnt (λ k x p. x)
   long-type : Fixes long-type.Learnt (λ k x p. x)
@@ -106,6 +108,7 @@ unique =
       same = λ k a x y p q. sole;
       signed = λ k a x y p q. one-signature x y _;
       own = λ k a x y p q. sole;
+      right = λ k a x y p q. sole;
       judge-head = λ k a x y p q. one-header x y _;
       short-type = λ k a x y p q. sole;
       long-type = λ k a x y p q. sole;

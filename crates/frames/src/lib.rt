@@ -6,7 +6,7 @@ ghost use lib.ListN.{length, take, drop};
 ghost use Rattle.format.specs.Bytes.{value, part, given, same, unless};
 ghost use Rattle.format.specs.Layout.{fixedOk};
 ghost use Rattle.format.specs.Table.{tail, least};
-ghost use Rattle.format.specs.Read.{signed, own, headFault, judgeHead, typeIn, sizeIn, framed};
+ghost use Rattle.format.specs.Read.{signed, own, right, headFault, judgeHead, typeIn, sizeIn, framed};
 ghost use Rattle.header.specs.Header.{meant};
 ghost use Rattle.frames.specs.Refusals.{refusalNumber, refusalPlace, spelledAs, judgedAs};
 ghost use Rattle.frames.specs.Frames.{ahead, numberFrom, named, recordIn};
@@ -126,6 +126,13 @@ pub fn own(table: &[u8]) -> &[u8]
     first(table, field::get_u32(table, 4) as usize)
 }
 
+// Whether the checksum is right: the table's own bytes add up to 0 modulo 256.
+pub fn right(table: &[u8]) -> bool
+    ensures { λ r. ⌜ r ≡ right (now (table .entry)) ⌝ }
+{
+    field::u8sum(own(table)).low == 0
+}
+
 // Whether the bytes after the header are those of the table's front.
 fn tail_stands(t: Table, table: &[u8]) -> bool
     ensures { λ r. ⌜ r ≡ fixedOk (tail (meant t)) (drop 36 (now (table .entry))) ⌝ }
@@ -163,7 +170,7 @@ fn judge_as(t: Table, table: &[u8]) -> Judged
     if header::LIMIT < n {
         return Judged::Refused(Refusal::BadLength);
     }
-    if field::u8sum(own(table)) != 0 {
+    if !right(table) {
         return Judged::Refused(Refusal::BadSum);
     }
     if !tail_stands(t, table) {

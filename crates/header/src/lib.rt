@@ -36,14 +36,14 @@ impl Checksum {
     pub fn append(self, data: &[u8]) -> Self
         ensures { λ r. ⌜ r .value ≡ (self .value + sum (now («data» .entry))) % 256 ⌝ }
     {
-        self.add(field::u8sum(data))
+        self.add(field::u8sum(data).low)
     }
 
     // The sum with bytes taken away.
     pub fn delete(self, data: &[u8]) -> Self
         ensures { λ r. ⌜ r .value ≡ (self .value + checkOf (sum (now («data» .entry)))) % 256 ⌝ }
     {
-        self.sub(field::u8sum(data))
+        self.sub(field::u8sum(data).low)
     }
 
     // The same for one byte.

@@ -17,6 +17,7 @@ use Rattle.format.specs.Build.{records, header, checkOf, summed, tableFrom}
 use Rattle.format.specs.Read.{signed, lengthIn, own, headFault, judgeHead, frames, walk, walked}
 use Rattle.format.specs.Out.{every, nodesFrom, outOf, meaningOf}
 use Rattle.laws.proofs.Bytes.{value-le, sum-append}
+use Rattle.laws.proofs.Checks.{check-sum}
 use Rattle.laws.proofs.Nodes.{length-bytes}
 use Rattle.laws.proofs.Good.{Good, walk-good, nodes-all}
 
@@ -27,7 +28,7 @@ sum-header h n len c rs = simp sum-append (omega arith)
 
 -- a check that makes the sum 0
 pub sum-zero : (h : Head) (n len : ℕ) (rs : List ℕ) → sum (header h n len (checkOf (sum (header h n len 0 ++ rs))) ++ rs) % 256 ≡ 0
-sum-zero h n len rs = rw (sum-header h n len (checkOf (sum (header h n len 0 ++ rs))) rs) (omega arith)
+sum-zero h n len rs = rw (sum-header h n len (checkOf (sum (header h n len 0 ++ rs))) rs) (check-sum (sum (header h n len 0 ++ rs)))
 
 tail-length : (t : Table) (n : ℕ) → 36 + length (lay (tail t) (told t n)) ≡ front t
 unfolding layWith le
@@ -70,12 +71,13 @@ length-in-ten srat v len c rs l = value-le 4 len l
 length-in-ten hmat v len c rs l = value-le 4 len l
 length-in-ten cedt v len c rs l = value-le 4 len l
 
-revision-ten : (t : Table) (v len c : ℕ) (rs : List ℕ) → at (ten t v len c ++ rs) 8 ≡ v
+-- the last two of them: revision and checksum
+ends-ten : (t : Table) (v len c : ℕ) (rs : List ℕ) → (at (ten t v len c ++ rs) 8 ≡ v) × (at (ten t v len c ++ rs) 9 ≡ c)
 unfolding ten le
-revision-ten pptt v len c rs = refl
-revision-ten srat v len c rs = refl
-revision-ten hmat v len c rs = refl
-revision-ten cedt v len c rs = refl
+ends-ten pptt v len c rs = (refl, refl)
+ends-ten srat v len c rs = (refl, refl)
+ends-ten hmat v len c rs = (refl, refl)
+ends-ten cedt v len c rs = (refl, refl)
 
 -- what stands behind the identity
 behind : Table → ℕ → List ℕ → List ℕ
@@ -96,7 +98,10 @@ module _ (h : Head) (n len c : ℕ) (rs : List ℕ) where
   length-is l = rw parts (length-in-ten (h .table) (h .revision) len c (h .identity ++ behind (h .table) n rs) l)
 
   revision-is : at (header h n len c ++ rs) 8 ≡ h .revision
-  revision-is = rw parts (revision-ten (h .table) (h .revision) len c (h .identity ++ behind (h .table) n rs))
+  revision-is = rw parts (ends-ten (h .table) (h .revision) len c (h .identity ++ behind (h .table) n rs) .0)
+
+  pub check-at : at (header h n len c ++ rs) 9 ≡ c
+  check-at = rw parts (ends-ten (h .table) (h .revision) len c (h .identity ++ behind (h .table) n rs) .1)
 
   module _ (h26 : length (h .identity) ≡ 26) where
     identity-is : part (header h n len c ++ rs) 10 26 ≡ h .identity

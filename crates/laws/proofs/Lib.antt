@@ -1,5 +1,6 @@
 pub mod Tests
 pub mod Bytes
+pub mod Checks
 pub mod Over
 pub mod Finds
 pub mod Lays
@@ -29,6 +30,7 @@ pub mod Promises
 pub mod Buffers
 pub mod Rounds
 pub mod Tables
+pub mod Sums
 pub mod Judges
 pub mod Readers
 pub mod Fields

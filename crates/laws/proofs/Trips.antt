@@ -20,6 +20,7 @@ use Rattle.format.specs.Build.{records, header, checkOf, summed, tableFrom, len
 use Rattle.format.specs.Read.{signed, lengthIn, own, headFault, judgeHead, Seen, walked}
 use Rattle.format.specs.Out.{every, nodesFrom, headIn, outOf, meaningOf}
 use Rattle.laws.proofs.Bytes.{le-value, bytes-take, bytes-drop, bytes-at, bytes-part, part-take, length-part}
+use Rattle.laws.proofs.Checks.{derived}
 use Rattle.laws.proofs.Finds.{found-test, none-first, then-given, or-given, unless-given}
 use Rattle.laws.proofs.Lays.{both-true, lay-fields}
 use Rattle.laws.proofs.Heads.{sum-header, length-records}
@@ -92,7 +93,7 @@ judged b t e = by (ltb (length b) 36) e
 pub own-whole : {t : Table} {b : List ℕ} → Headed t b → length (own b) ≡ lengthIn b
 own-whole {t} {b} H = length-take-le (lengthIn b) b (H .lent)
 
-front-is : (t : Table) → front t ≡ 36 + width (tail t)
+pub front-is : (t : Table) → front t ≡ 36 + width (tail t)
 unfolding width
 front-is pptt = refl
 front-is srat = refl
@@ -149,9 +150,7 @@ module _ (t : Table) (b : List ℕ) (h : Bytes b) (H : Headed t b) (n : ℕ) whe
       let x = at b 9 in
       let s0 = sum (header (headIn t b) n (lengthIn b) 0 ++ drop (front t) (own b)) in
       let e : sum (own b) ≡ x + s0 = ap sum apart ∙ sum-header (headIn t b) n (lengthIn b) x (drop (front t) (own b)) in
-      let l : x < 256 = bytes-at b 9 h in
-      let z : sum (own b) % 256 ≡ 0 = H .summed in
-      omega arith
+      sym (derived x s0 (bytes-at b 9 h) .0 (rw e at (H .summed)))
 
   -- what is built of the head and the records
   rebuilt : summed (headIn t b) n (drop (front t) (own b)) ≡ own b

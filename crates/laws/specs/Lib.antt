@@ -11,4 +11,5 @@ pub mod Demand3
 pub mod Demand1Read
 pub mod Buffers
 pub mod Versions
+pub mod Sums
 pub mod Unique

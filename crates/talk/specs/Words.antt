@@ -5,7 +5,7 @@ use lib.Dec.{eqb}
 use lib.ListN.{take, drop}
 use Rattle.format.specs.Bytes.{pick, same}
 use Rattle.talk.specs.declared.Call.{Call}
-use Rattle.talk.specs.declared.Call.the-variants.{Build, Out, Read, Other}
+use Rattle.talk.specs.declared.Call.the-variants.{Build, Out, Read, Sum, Other}
 
 -- how many bytes stand before the first space, 32
 unfoldable pub spaceIn : List ℕ → ℕ
@@ -20,9 +20,10 @@ wordIn s = take (spaceIn s) s
 abbrev pub behindIn : List ℕ → List ℕ
 behindIn s = drop 1 (drop (spaceIn s) s)
 
--- the words 'build', 'out' and 'read'
+-- the words 'build', 'out', 'read' and 'sum'
 unfoldable pub callIn : List ℕ → Call
 callIn w =
     pick (same w (98 ∷ 117 ∷ 105 ∷ 108 ∷ 100 ∷ [])) Build
     (pick (same w (111 ∷ 117 ∷ 116 ∷ [])) Out
-    (pick (same w (114 ∷ 101 ∷ 97 ∷ 100 ∷ [])) Read Other))
+    (pick (same w (114 ∷ 101 ∷ 97 ∷ 100 ∷ [])) Read
+    (pick (same w (115 ∷ 117 ∷ 109 ∷ [])) Sum Other)))

@@ -38,11 +38,12 @@ pub fn behind(text: &[u8]) -> &[u8]
     field::rest(field::rest(text, space(text)), 1)
 }
 
-// The three calls.
+// The calls.
 pub enum Call {
     Build,
     Out,
     Read,
+    Sum,
     Other,
 }
 
@@ -58,6 +59,9 @@ pub fn named(name: &[u8]) -> Call
     }
     if frames::same(name, b"read") {
         return Call::Read;
+    }
+    if frames::same(name, b"sum") {
+        return Call::Sum;
     }
     Call::Other
 }

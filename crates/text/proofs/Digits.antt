@@ -28,12 +28,16 @@ pub digits-one : (v : ℕ) → v < 10 → digits 20 v ≡ (48 + v) ∷ []
 unfolding digits
 digits-one v h = rw (lt-ltb v 10 h, mod-eq-of-lt h)
 
-last : (v : ℕ) → 10 ≤ v → digits 20 v ≡ digits 19 (v / 10) ++ ((48 + v % 10) ∷ [])
+last : (k v : ℕ) → 10 ≤ v → digits (suc k) v ≡ digits k (v / 10) ++ ((48 + v % 10) ∷ [])
 unfolding digits
-last v h = rw (le-ltb v 10 h)
+last k v h = rw (le-ltb v 10 h)
 
-pub digits-more : (v : ℕ) → 10 ≤ v → v < 10 ^ 20 → digits 20 v ≡ digits 20 (v / 10) ++ ((48 + v % 10) ∷ [])
-digits-more v h l = last v h ∙ rw (enough 18 (v / 10) (tenth 19 v l))
+pub digits-more : (k v : ℕ) → 10 ≤ v → v < 10 ^ suc (suc k) → digits (suc (suc k)) v ≡ digits (suc (suc k)) (v / 10) ++ ((48 + v % 10) ∷ [])
+digits-more k v h l = last (suc k) v h ∙ rw (enough k (v / 10) (tenth (suc k) v l))
+
+-- 20 digits are enough for a number that fits 64 bits
+pub digits-short : (v : ℕ) → v < 10 ^ 20 → digits 20 v ≡ digits 22 v
+digits-short v h = enough 19 v h ∙ enough 20 v (omega arith)
 
 one-more : (x : Bool) (ds : List ℕ) (c n : ℕ) → length ds ≤ n → length (pick x [] ds ++ (c ∷ [])) ≤ suc n
 one-more true ds c n h = omega arith

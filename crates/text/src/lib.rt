@@ -3,8 +3,10 @@
 ghost use mathlib.Core.Path.{_≡_};
 ghost use mathlib.Core.List.{[], _∷_};
 ghost use Prim.Native.Nat.{_/_};
-ghost use Rattle.format.specs.Listing.{digits, spaced, refusedWords};
+ghost use Rattle.format.specs.Listing.{digits, spaced, refusedWords, sumWords};
+ghost use Rattle.field.specs.Whole.{numberOf};
 ghost use Rattle.text.specs.Text.{laid, glyph, pairs, hexed, others, listed};
+use field::Whole;
 
 // One byte.
 pub fn byte(out: &mut [u8], n: usize, b: u8) -> usize
@@ -50,6 +52,25 @@ pub fn spaced(out: &mut [u8], n: usize, v: u64) -> usize
 {
     let m = byte(out, n, b' ');
     decimal(out, m, v)
+}
+
+// The same of a number that may pass 64 bits.
+fn whole(out: &mut [u8], n: usize, v: Whole) -> usize
+    ensures { λ r. ⌜ (r, now (out .exit)) ≡ laid (now (out .entry)) n (digits 22 (numberOf v)) ⌝ }
+{
+    if v.high == 0 {
+        return decimal(out, n, v.low as u64);
+    }
+    let m = whole(out, n, v.tenth());
+    byte(out, m, b'0' + v.digit())
+}
+
+// The words of a sum.
+pub fn summed(out: &mut [u8], n: usize, sum: Whole) -> usize
+    ensures { λ r. ⌜ (r, now (out .exit)) ≡ laid (now (out .entry)) n (sumWords (numberOf sum)) ⌝ }
+{
+    let m = bytes(out, n, b"sum ");
+    whole(out, m, sum)
 }
 
 // The words of a refusal: its number and its place.

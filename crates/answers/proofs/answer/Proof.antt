@@ -27,8 +27,14 @@ returns-3 c =
 returns-4 : tie.Need-returns-4
 unfolding answerTo
 returns-4 c =
+    let n = c .before .before .before .before .before .before .before .before .before in
+    rw (ap callIn (sym (n .before .word .ensures)) ∙ sym (n .named .ensures) ∙ c .before .before .before .before .before .before .before .enum-told4 .given .1, ← n .before .before .behind .ensures) (c .before .before .before .before .add-up .ensures)
+
+returns-5 : tie.Need-returns-5
+unfolding answerTo
+returns-5 c =
     let n = c .before .before .before .before .before .before in
-    rw (ap callIn (sym (n .before .word .ensures)) ∙ sym (n .named .ensures) ∙ c .before .before .before .before .enum-told4 .given .1) (c .before .before .what .ensures)
+    rw (ap callIn (sym (n .before .word .ensures)) ∙ sym (n .named .ensures) ∙ c .before .before .before .before .enum-told5 .given .1) (c .before .before .what .ensures)
 
 pub answer-spec : {M : Type 1} → statement M
 answer-spec =
@@ -36,6 +42,8 @@ answer-spec =
     (tie.spec
     (λ c κs. search needs)
     (λ c κs. search needs)
+    (λ c κs. search needs)
+    (λ c. search needs)
     (λ c κs. search needs)
     (λ c. search needs)
     (λ c κs. search needs)
@@ -57,4 +65,7 @@ answer-spec =
     (λ c. search needs)
     returns-3
     (λ c. search needs)
-    returns-4)
+    (λ c. search needs)
+    returns-4
+    (λ c. search needs)
+    returns-5)

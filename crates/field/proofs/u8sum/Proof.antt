@@ -1,6 +1,7 @@
--- `u8sum` meets its contract. The invariant: the sum so far and that of the bytes still to come are the whole sum, modulo 256.
+-- `u8sum` meets its contract. The invariant: the sum so far and that of the bytes still to come are the whole sum, and each byte has added
+-- at most one to high, which therefore fits.
 use mathlib.Core.Path.{_≡_}
-use Prim.Native.Nat.{_+_, _-_, _%_, _≤_, _<_}
+use Prim.Native.Nat.{_+_, _-_, _*_, _/_, _%_, _≤_, _<_}
 use native.Mathlib.Omega.{arith}
 use borrow.Author.Needs.{needs}
 use lib.ListN.{length, drop}
@@ -10,20 +11,25 @@ use Rattle.field.proofs.u8sum.Statement.{statement}
 use Rattle.field.proofs.u8sum.Tie as tie
 
 abbrev Inv-loop : tie.InvT-loop
-Inv-loop s value₀ i₀ value i = (i ≤ length s) × (value < 256) × ((value + sum (drop i s)) % 256 ≡ sum s % 256)
+Inv-loop s high₀ low₀ i₀ high low i = (i ≤ length s) × (low < 256) × (high ≤ i) × (256 * high + low + sum (drop i s) ≡ sum s)
 
 abbrev μ-loop : tie.MeasureT-loop
-μ-loop s value₀ i₀ value i = length s - i
+μ-loop s high₀ low₀ i₀ high low i = length s - i
 
 loop-again : tie.Need-loop-again Inv-loop μ-loop
 loop-again c =
-    let a = c .before .before .before in
-    omega (arith, sum-drop (a .before .before .args .s .now) (a .loop .i) (c .before .before .loop-test .taken))
+    let l = c .before .before .before .before in
+    let e = sum-drop (l .before .before .args .s .now) (l .loop .i) (c .before .before .before .loop-test .taken) in
+    (omega arith, omega arith, omega arith, omega (arith, e))
 
 returns : tie.Need-returns Inv-loop μ-loop
 returns c =
-    let a = c .before in
-    omega (arith, sum-drop-end (a .before .before .args .s .now) (a .loop .i) (c .loop-test .left))
+    let l = c .before in
+    let s = l .before .before .args .s .now in
+    let e = sum-drop-end s (l .loop .i) (c .loop-test .left) in
+    let h : l .loop .high ≡ sum s / 256 = omega (arith, e) in
+    let r : l .loop .low ≡ sum s % 256 = omega (arith, e) in
+    rw (h, r)
 
 pub u8sum-spec : {M : Type 1} → statement M
 u8sum-spec =
@@ -32,6 +38,8 @@ u8sum-spec =
     Inv-loop
     μ-loop
     (λ c. search needs)
+    (λ c. search needs)
+    (λ c κs. search needs)
     (λ c. search needs)
     (λ c κs. search needs)
     (λ c. search needs)

@@ -1,6 +1,6 @@
 -- `judge_as` meets its contract: the tests of a header in order, each passed one told to the next.
 use borrow.Author.Needs.{needs}
-use borrow.Author.Tests.{le-leb, lt-leb, eq-eqb, ne-eqb, not-true, not-false}
+use borrow.Author.Tests.{le-leb, lt-leb, not-true, not-false}
 use Rattle.frames.proofs.Heads.{head-fault, head-long}
 use Rattle.frames.proofs.judge_as.Statement.{statement}
 use Rattle.frames.proofs.judge_as.Tie as tie
@@ -21,25 +21,25 @@ returns-3 c =
 returns-4 : tie.Need-returns-4
 returns-4 c =
     let s = c .before in
-    let l = s .before .before in
+    let l = s .before in
     let f = l .before .before .before in
-    rw (head-long _ _ _ _ (f .before .get-u32 .ensures) (f .front .ensures) (l .before .before .if1 .left) (l .before .if2 .left) (l .if3 .left), ← s .before .own .ensures, ← s .u8sum .ensures, ne-eqb _ _ (c .if4 .taken))
+    rw (head-long _ _ _ _ (f .before .get-u32 .ensures) (f .front .ensures) (l .before .before .if1 .left) (l .before .if2 .left) (l .if3 .left), ← s .right .ensures, not-true (s .right .result) (c .if4 .taken))
 
 returns-5 : tie.Need-returns-5
 returns-5 c =
     let s = c .before .before .before in
-    let l = s .before .before in
+    let l = s .before in
     let f = l .before .before .before in
     let t = c .before .tail-stands in
-    rw (head-long _ _ _ _ (f .before .get-u32 .ensures) (f .front .ensures) (l .before .before .if1 .left) (l .before .if2 .left) (l .if3 .left), ← s .before .own .ensures, ← s .u8sum .ensures, eq-eqb _ _ (c .before .before .if4 .left), ← t .ensures, not-true (t .result) (c .if5 .taken))
+    rw (head-long _ _ _ _ (f .before .get-u32 .ensures) (f .front .ensures) (l .before .before .if1 .left) (l .before .if2 .left) (l .if3 .left), ← s .right .ensures, not-false (s .right .result) (c .before .before .if4 .left), ← t .ensures, not-true (t .result) (c .if5 .taken))
 
 returns-6 : tie.Need-returns-6
 returns-6 c =
     let s = c .before .before .before in
-    let l = s .before .before in
+    let l = s .before in
     let f = l .before .before .before in
     let t = c .before .tail-stands in
-    rw (head-long _ _ _ _ (f .before .get-u32 .ensures) (f .front .ensures) (l .before .before .if1 .left) (l .before .if2 .left) (l .if3 .left), ← s .before .own .ensures, ← s .u8sum .ensures, eq-eqb _ _ (c .before .before .if4 .left), ← t .ensures, not-false (t .result) (c .if5 .left))
+    rw (head-long _ _ _ _ (f .before .get-u32 .ensures) (f .front .ensures) (l .before .before .if1 .left) (l .before .if2 .left) (l .if3 .left), ← s .right .ensures, not-false (s .right .result) (c .before .before .if4 .left), ← t .ensures, not-false (t .result) (c .if5 .left))
 
 pub judge-as-spec : {M : Type 1} → statement M
 judge-as-spec =
@@ -51,7 +51,6 @@ judge-as-spec =
     returns
     returns-2
     returns-3
-    (λ c κs. search needs)
     (λ c κs. search needs)
     returns-4
     (λ c κs. search needs)

@@ -116,7 +116,7 @@ decimal-returns-2 t c =
     let b = c .before .before in
     let d = b .before .before .before .before in
     let a = d .before .before .before .before .args in
-    laid-next (a .out .now) (a .n) _ _ (d .decimal .ensures) (b .byte2 .ensures) ∙ rw (digits-more (a .v) (omega arith) (omega arith))
+    laid-next (a .out .now) (a .n) _ _ (d .decimal .ensures) (b .byte2 .ensures) ∙ rw (digits-more 18 (a .v) (omega arith) (omega arith))
 
 pub +decimal-spec : {M : Type 1} → statement M
 +decimal-spec = close μ-decimal λ t. decimal-lts.spec (
