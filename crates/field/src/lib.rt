@@ -331,7 +331,7 @@ pub struct Whole {
 }
 
 impl Whole {
-    // What the number has but for its tens.
+    // The number less a multiple of 2,560: it has the same last digit, and of high only the last digit counts.
     fn units(self) -> u64
         ensures { λ r. ⌜ r ≡ self .high % 10 * 256 + self .low ⌝ }
     {

@@ -7,6 +7,7 @@ use srat::RintcAffinity;
 
 // A range of memory: addresses are read in hexadecimal, its length both ways.
 pub fn memory(n: MemoryAffinity) {
+    words::say(b"memory\n");
     words::line(b"domain", n.proximity_domain as u64);
     words::hex_line(b"base address", n.base_address);
     words::name(b"length");
@@ -66,6 +67,7 @@ fn handle(h: Handle) {
 
 // A generic initiator.
 pub fn initiator(n: GenericInitiator) {
+    words::say(b"generic initiator\n");
     words::line(b"domain", n.proximity_domain as u64);
     let h = n.handle;
     handle(h);
@@ -82,6 +84,7 @@ pub fn initiator(n: GenericInitiator) {
 
 // An interrupt controller of a RISC-V hart.
 pub fn rintc(n: RintcAffinity) {
+    words::say(b"RINTC\n");
     words::line(b"processor uid", n.acpi_processor_uid as u64);
     words::flags(n.flags as u64);
     words::bit(n.flags, RintcAffinity::ENABLED, b"enabled", false);

@@ -49,25 +49,13 @@ fn head(table: &[u8], count: usize) {
     words::line(b"records", count as u64);
 }
 
-// The name of a row.
-fn row(node: Node) {
-    match node {
-        Node::Processor(_) => words::say(b"processor\n"),
-        Node::Cache(_) => words::say(b"cache\n"),
-        Node::Memory(_) => words::say(b"memory\n"),
-        Node::Initiator(_) => words::say(b"generic initiator\n"),
-        Node::Rintc(_) => words::say(b"RINTC\n"),
-        Node::Domain(_) => words::say(b"domain\n"),
-        Node::Matrix(_) => words::say(b"matrix\n"),
-        Node::Side(_) => words::say(b"side cache\n"),
-        Node::Bridge(_) => words::say(b"CXL host bridge\n"),
-        Node::Window(_) => words::say(b"CXL window\n"),
-        Node::Xor(_) => words::say(b"XOR maths\n"),
-        Node::Unknown => words::say(b"unknown\n"),
-    }
+// A record of no known row: its bytes.
+fn unknown(part: &[u8]) {
+    words::say(b"unknown\n");
+    words::bytes(part);
 }
 
-// The fields of the record at a place; of an unknown one its bytes.
+// The name of the row of the record at a place, and its fields; of an unknown one its bytes.
 fn fields(table: &[u8], place: usize, node: Node) {
     match node {
         Node::Processor(n) => nodes::processor(table, place, n),
@@ -81,7 +69,7 @@ fn fields(table: &[u8], place: usize, node: Node) {
         Node::Bridge(n) => windows::bridge(n),
         Node::Window(n) => windows::window(table, place, n),
         Node::Xor(n) => windows::maths(table, place, n),
-        Node::Unknown => words::bytes(read::part_at(table, EVERY, place)),
+        Node::Unknown => unknown(read::part_at(table, EVERY, place)),
     }
 }
 
@@ -113,7 +101,6 @@ fn record(table: &[u8], i: u64, s: Shown)
     words::say(b", length ");
     words::number(s.length as u64);
     words::say(b", ");
-    row(node);
     fields(table, s.place, node);
 }
 

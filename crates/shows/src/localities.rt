@@ -6,6 +6,7 @@ use hmat::SystemLocality;
 
 // A domain; of a known record the flags have one value.
 pub fn domain(n: MemoryProximityDomain) {
+    words::say(b"domain\n");
     words::flags(MemoryProximityDomain::DOMAIN_VALID as u64);
     words::say(b" domain valid\n");
     words::line(b"initiator domain", n.proximity_domain_initiator as u64);
@@ -51,25 +52,29 @@ fn data_type(n: u8) {
     }
 }
 
+// What the codes of a transfer size from 1 on stand for: bytes, and from 5 on KiB.
+const SIZES: [u64; 12] = [0, 64, 128, 256, 512, 1, 2, 4, 8, 16, 32, 64];
+
 // A number above 0 stands for a power of two, from 64 bytes on.
 fn transfer_size(n: u8) {
     words::name(b"minimum transfer size");
     words::number(n as u64);
-    match n {
-        0 => words::say(b" (byte aligned)\n"),
-        1 => words::say(b" (64 bytes)\n"),
-        2 => words::say(b" (128 bytes)\n"),
-        3 => words::say(b" (256 bytes)\n"),
-        4 => words::say(b" (512 bytes)\n"),
-        5 => words::say(b" (1 KiB)\n"),
-        6 => words::say(b" (2 KiB)\n"),
-        7 => words::say(b" (4 KiB)\n"),
-        8 => words::say(b" (8 KiB)\n"),
-        9 => words::say(b" (16 KiB)\n"),
-        10 => words::say(b" (32 KiB)\n"),
-        11 => words::say(b" (64 KiB)\n"),
-        _ => words::end(),
+    if n == 0 {
+        words::say(b" (byte aligned)\n");
+        return;
     }
+    if 11 < n {
+        words::end();
+        return;
+    }
+    let i = n as usize;
+    words::say(b" (");
+    words::number(SIZES[i]);
+    if n < 5 {
+        words::say(b" bytes)\n");
+        return;
+    }
+    words::say(b" KiB)\n");
 }
 
 // The width of a column that has room for a number behind two spaces, and is not narrower than w.
@@ -167,6 +172,7 @@ fn entries(table: &[u8], place: usize, initiators: u32, targets: u32) {
 
 // A matrix. What its base unit measures depends on the revision that a guest goes by, so that no unit is named.
 pub fn matrix(table: &[u8], place: usize, m: SystemLocality) {
+    words::say(b"matrix\n");
     matrix_flags(m);
     data_type(m.data_type);
     transfer_size(m.min_transfer_size);
@@ -228,6 +234,7 @@ fn handles(table: &[u8], place: usize, count: usize) {
 
 // A side cache, and a line for each of its handles.
 pub fn side(table: &[u8], place: usize, n: MemorySideCache) {
+    words::say(b"side cache\n");
     words::line(b"domain", n.proximity_domain as u64);
     words::line(b"size", n.cache_size);
     attributes(n);

@@ -62,6 +62,7 @@ fn resources(table: &[u8], place: usize, count: u32) {
 
 // A processor, and a line for each of its resources.
 pub fn processor(table: &[u8], place: usize, n: ProcessorNode) {
+    words::say(b"processor\n");
     processor_flags(n.flags);
     reference(b"parent", table, n.parent.0);
     words::line(b"processor id", n.acpi_processor_id as u64);
@@ -148,6 +149,7 @@ fn attributes(n: CacheNode) {
 
 // A cache.
 pub fn cache(table: &[u8], n: CacheNode) {
+    words::say(b"cache\n");
     cache_flags(n.flags);
     reference(b"next level", table, n.next_level.0);
     given(n.flags, CacheNodeBuilder::SIZE, b"size", n.size as u64);

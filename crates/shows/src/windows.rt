@@ -15,6 +15,7 @@ fn bytes_line(word: &[u8], n: u64) {
 
 // What the version is of, and how many bytes its registers take.
 pub fn bridge(n: CxlHostBridge) {
+    words::say(b"CXL host bridge\n");
     words::line(b"uid", n.host_bridge_uid as u64);
     words::name(b"version");
     words::number(n.cxl_version as u64);
@@ -52,18 +53,18 @@ fn arithmetic(n: u8) {
     }
 }
 
+// The bytes that the codes of a granularity stand for.
+const SIZES: [u64; 7] = [256, 512, 1024, 2048, 4096, 8192, 16384];
+
 // A number stands for a power of two, from 256 bytes on.
 fn granularity(n: u32) {
     words::name(b"granularity");
-    match n {
-        0 => words::say(b"256 bytes"),
-        1 => words::say(b"512 bytes"),
-        2 => words::say(b"1024 bytes"),
-        3 => words::say(b"2048 bytes"),
-        4 => words::say(b"4096 bytes"),
-        5 => words::say(b"8192 bytes"),
-        6 => words::say(b"16384 bytes"),
-        _ => words::say(b"unknown"),
+    if n < 7 {
+        let i = n as usize;
+        words::number(SIZES[i]);
+        words::say(b" bytes");
+    } else {
+        words::say(b"unknown");
     }
     code(n as u64);
 }
@@ -108,6 +109,7 @@ fn targets(table: &[u8], place: usize, count: usize) {
 
 // A window, and a line for each of its targets: its ways say how many.
 pub fn window(table: &[u8], place: usize, n: CxlFixedMemory) {
+    words::say(b"CXL window\n");
     words::hex_line(b"base address", n.base_addr);
     bytes_line(b"size", n.size);
     ways(n);
@@ -130,6 +132,7 @@ fn maps(table: &[u8], place: usize, count: usize) {
 
 // Maths, and a line for each of their maps.
 pub fn maths(table: &[u8], place: usize, n: XorInterleaveMath) {
+    words::say(b"XOR maths\n");
     granularity(n.granularity as u32);
     words::line(b"maps", n.xormaps as u64);
     maps(table, place, n.xormaps as usize);
