@@ -52,29 +52,25 @@ fn data_type(n: u8) {
     }
 }
 
-// What the codes of a transfer size from 1 on stand for: bytes, and from 5 on KiB.
-const SIZES: [u64; 12] = [0, 64, 128, 256, 512, 1, 2, 4, 8, 16, 32, 64];
-
 // A number above 0 stands for a power of two, from 64 bytes on.
 fn transfer_size(n: u8) {
     words::name(b"minimum transfer size");
     words::number(n as u64);
-    if n == 0 {
-        words::say(b" (byte aligned)\n");
-        return;
+    match n {
+        0 => words::say(b" (byte aligned)\n"),
+        1 => words::say(b" (64 bytes)\n"),
+        2 => words::say(b" (128 bytes)\n"),
+        3 => words::say(b" (256 bytes)\n"),
+        4 => words::say(b" (512 bytes)\n"),
+        5 => words::say(b" (1 KiB)\n"),
+        6 => words::say(b" (2 KiB)\n"),
+        7 => words::say(b" (4 KiB)\n"),
+        8 => words::say(b" (8 KiB)\n"),
+        9 => words::say(b" (16 KiB)\n"),
+        10 => words::say(b" (32 KiB)\n"),
+        11 => words::say(b" (64 KiB)\n"),
+        _ => words::end(),
     }
-    if 11 < n {
-        words::end();
-        return;
-    }
-    let i = n as usize;
-    words::say(b" (");
-    words::number(SIZES[i]);
-    if n < 5 {
-        words::say(b" bytes)\n");
-        return;
-    }
-    words::say(b" KiB)\n");
 }
 
 // The width of a column that has room for a number behind two spaces, and is not narrower than w.

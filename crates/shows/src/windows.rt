@@ -53,18 +53,18 @@ fn arithmetic(n: u8) {
     }
 }
 
-// The bytes that the codes of a granularity stand for.
-const SIZES: [u64; 7] = [256, 512, 1024, 2048, 4096, 8192, 16384];
-
 // A number stands for a power of two, from 256 bytes on.
 fn granularity(n: u32) {
     words::name(b"granularity");
-    if n < 7 {
-        let i = n as usize;
-        words::number(SIZES[i]);
-        words::say(b" bytes");
-    } else {
-        words::say(b"unknown");
+    match n {
+        0 => words::say(b"256 bytes"),
+        1 => words::say(b"512 bytes"),
+        2 => words::say(b"1024 bytes"),
+        3 => words::say(b"2048 bytes"),
+        4 => words::say(b"4096 bytes"),
+        5 => words::say(b"8192 bytes"),
+        6 => words::say(b"16384 bytes"),
+        _ => words::say(b"unknown"),
     }
     code(n as u64);
 }

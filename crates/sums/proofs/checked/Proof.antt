@@ -1,5 +1,5 @@
 -- `checked` meets its contract: no table, or the words for its checksum and for what stands behind it.
-use mathlib.Core.Path.{sym, _∙_}
+use mathlib.Core.Path.{_∙_}
 use borrow.Author.Needs.{needs}
 use borrow.Author.Tests.{not-true, not-false}
 use Rattle.text.proofs.Laws.{laid-next}
