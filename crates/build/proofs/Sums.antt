@@ -1,9 +1,9 @@
 -- The running sum: what a change takes away and adds makes of the sum before the sum after. On lists by appending, then on plain numbers.
-use mathlib.Core.Path.{_≡_, refl, ap, _∙_}
+use mathlib.Core.Path.{_≡_, refl, sym, ap, _∙_}
 use Prim.Native.Nat.{ℕ, _+_, _/_, _%_, _≤_, _<_}
 use mathlib.Core.List.{List, _++_}
 use native.Mathlib.Omega.{arith}
-use native.Mathlib.Nat.{zero-add, add-zero}
+use native.Mathlib.Nat.{zero-add, add-zero, mod-eq-of-lt}
 use lib.ListN.{length, take, drop, length-append}
 use lib.Seq.{take-at, drop-at, length-take-le}
 use Rattle.format.specs.Bytes.{at, le, part, over, sum}
@@ -52,8 +52,12 @@ shift₃ a b x y z e = omega arith
 pub sum-three : (v a l m p q r : ℕ) → p ≡ (v + a) % 256 → q ≡ (p + l) % 256 → r ≡ (q + m) % 256 → r ≡ (v + a + l + m) % 256
 sum-three v a l m p q r e g h = h ∙ shift q (p + l) m g ∙ shift₂ p (v + a) l m e
 
+exchange : (v x y z : ℕ) → (x + y) % 256 ≡ z → (v + x + y) % 256 ≡ (v + z) % 256
+exchange v x y z e = omega arith
+
+-- what goes and comes again, by the law of the checksum
 shut : (x l : ℕ) → x % 256 ≡ (x + checkOf l + l) % 256
-shut x l = omega arith
+shut x l = rw (exchange x (checkOf l) l 0 (check-sum l), add-zero)
 
 -- of no bytes there is nothing to add, and nothing to take away
 none-of : (out : List ℕ) (f n : ℕ) → n ≡ 0 → sum (part out f n) ≡ 0
@@ -61,7 +65,7 @@ unfolding part sum
 none-of out f n z = rw z
 
 still-mod : (v : ℕ) → v < 256 → v ≡ (v + checkOf 0) % 256
-still-mod v l = omega arith
+still-mod v l = sym (mod-eq-of-lt l) ∙ shut v 0 ∙ rw (add-zero (v + checkOf 0))
 
 pub sum-same : (v : ℕ) (out : List ℕ) (f n : ℕ) → n ≡ 0 → v < 256 → v ≡ (v + checkOf (sum (part out f n))) % 256
 sum-same v out f n z l = rw (none-of out f n z) (still-mod v l)
@@ -112,9 +116,6 @@ sum-of-zeros a b x y e f = omega arith
 
 less : (a b : ℕ) → (checkOf a + checkOf b) % 256 ≡ checkOf (a + b)
 less a b = derived ((checkOf a + checkOf b) % 256) (a + b) (omega arith) .0 (sum-of-zeros a b (checkOf a) (checkOf b) (check-sum a) (check-sum b))
-
-exchange : (v x y z : ℕ) → (x + y) % 256 ≡ z → (v + x + y) % 256 ≡ (v + z) % 256
-exchange v x y z e = omega arith
 
 -- two numbers go one by one
 gone : (v a b p q : ℕ) → p ≡ (v + checkOf a) % 256 → q ≡ (p + checkOf b) % 256 → q ≡ (v + checkOf (a + b)) % 256

@@ -11,6 +11,7 @@ ghost use Rattle.header.specs.Header.{meant};
 ghost use Rattle.frames.specs.Refusals.{refusalNumber, refusalPlace, spelledAs, judgedAs};
 ghost use Rattle.frames.specs.Frames.{ahead, numberFrom, named, recordIn};
 use header::Table;
+use header::TableHeader;
 use marks::Mark;
 
 // What a reading call refuses, in the order of the tests.
@@ -123,7 +124,7 @@ pub fn signed(table: &[u8]) -> Spelled
 pub fn own(table: &[u8]) -> &[u8]
     ensures { λ r. ⌜ now r ≡ own (now (table .entry)) ⌝ }
 {
-    first(table, field::get_u32(table, 4) as usize)
+    first(table, TableHeader::length_in(table) as usize)
 }
 
 // Whether the checksum is right: the table's own bytes add up to 0 modulo 256.
@@ -160,7 +161,7 @@ pub enum Judged {
 fn judge_as(t: Table, table: &[u8]) -> Judged
     ensures { λ r. ⌜ judgedAs r ≡ unless (headFault (meant t) (now (table .entry))) 0 (given (meant t)) ⌝ }
 {
-    let n = field::get_u32(table, 4) as usize;
+    let n = TableHeader::length_in(table) as usize;
     if n < t.front() {
         return Judged::Refused(Refusal::BadLength);
     }
@@ -182,7 +183,7 @@ fn judge_as(t: Table, table: &[u8]) -> Judged
 pub fn judge_head(table: &[u8]) -> Judged
     ensures { λ r. ⌜ judgedAs r ≡ judgeHead (now (table .entry)) ⌝ }
 {
-    if table.len() < header::TableHeader::LEN {
+    if table.len() < TableHeader::LEN {
         return Judged::Refused(Refusal::Short);
     }
     match signed(table) {

@@ -21,6 +21,7 @@ use Rattle.header.proofs.Table.signature.Reads as Table-signature
 use Rattle.header.proofs.Table.revision.Reads as Table-revision
 use Rattle.header.proofs.Table.front.Reads as Table-front
 use Rattle.header.proofs.TableHeader.from_body.Reads as TableHeader-from-body
+use Rattle.header.proofs.TableHeader.length_in.Reads as TableHeader-length-in
 use Rattle.header.proofs.TableHeader.revision_in.Reads as TableHeader-revision-in
 use Rattle.header.proofs.TableHeader.set_length.Reads as TableHeader-set-length
 use Rattle.header.proofs.TableHeader.set_checksum.Reads as TableHeader-set-checksum
@@ -68,6 +69,7 @@ pub record Unique : Type 0 where
   Table-revision : Fixes Table-revision.Learnt (λ k x p. x)
   Table-front : Fixes Table-front.Learnt (λ k x p. x)
   TableHeader-from-body : Fixes TableHeader-from-body.Learnt (λ k x p. x)
+  TableHeader-length-in : Fixes TableHeader-length-in.Learnt (λ k x p. x)
   TableHeader-revision-in : Fixes TableHeader-revision-in.Learnt (λ k x p. x)
   TableHeader-set-length : Fixes TableHeader-set-length.Learnt (λ k x p. p .0 .now)
   TableHeader-set-checksum : Fixes TableHeader-set-checksum.Learnt (λ k x p. p .0 .now)
@@ -93,6 +95,7 @@ unique =
       Table-revision = λ k a x y p q. sole;
       Table-front = λ k a x y p q. sole;
       TableHeader-from-body = λ k a x y p q. sole;
+      TableHeader-length-in = λ k a x y p q. sole;
       TableHeader-revision-in = λ k a x y p q. sole;
       TableHeader-set-length = λ k a x y p q. sole;
       TableHeader-set-checksum = λ k a x y p q. sole;

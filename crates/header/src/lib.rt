@@ -7,6 +7,7 @@ ghost use Rattle.format.specs.Layout.{lay};
 ghost use Rattle.format.specs.Table.{code, sign, revision, tail, told, front, limit};
 ghost use Rattle.format.specs.Build.{checkOf};
 ghost use Rattle.format.specs.Normal.{headCall};
+ghost use Rattle.format.specs.Read.{lengthIn};
 ghost use Rattle.format.specs.Out.{headIn};
 ghost use Rattle.header.specs.declared.TableHeader.{TableHeader};
 ghost use Rattle.header.specs.Header.{meant, identity, headerBytes, Sized, headerOf, headFrom, withChecksum};
@@ -212,6 +213,13 @@ impl TableHeader {
             creator_id,
             creator_revision,
         )
+    }
+
+    // The length of a table, as its header says it.
+    pub fn length_in(table: &[u8]) -> u32
+        ensures { λ r. ⌜ r ≡ lengthIn (now (table .entry)) ⌝ }
+    {
+        field::get_u32(table, Self::LENGTH_AT)
     }
 
     // The revision of a table.

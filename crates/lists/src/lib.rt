@@ -57,7 +57,7 @@ fn first_line(table: &[u8], count: usize, out: &mut [u8]) -> usize
 {
     let mut m = text::bytes(out, 0, frames::first(table, 4));
     m = text::spaced(out, m, TableHeader::revision_in(table) as u64);
-    m = text::spaced(out, m, field::get_u32(table, 4) as u64);
+    m = text::spaced(out, m, TableHeader::length_in(table) as u64);
     m = text::spaced(out, m, count as u64);
     text::byte(out, m, b'\n')
 }

@@ -39,7 +39,7 @@ fn text_line(word: &[u8], s: &[u8], n: usize) {
 fn head(table: &[u8], count: usize) {
     signature(table);
     words::line(b"revision", TableHeader::revision_in(table) as u64);
-    words::line(b"length", field::get_u32(table, 4) as u64);
+    words::line(b"length", TableHeader::length_in(table) as u64);
     words::hex_line(b"checksum", field::get_u8(table, 9) as u64);
     text_line(b"OEM ID", field::rest(table, 10), 6);
     text_line(b"OEM table ID", field::rest(table, 16), 8);

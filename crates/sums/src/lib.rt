@@ -8,7 +8,7 @@ use header::TableHeader;
 fn entire(bytes: &[u8]) -> bool
     ensures { λ r. ⌜ r ≡ entire (now (bytes .entry)) ⌝ }
 {
-    let n = field::get_u32(bytes, 4) as usize;
+    let n = TableHeader::length_in(bytes) as usize;
     if n < TableHeader::LEN {
         return false;
     }
@@ -44,7 +44,7 @@ fn checked(bytes: &[u8], out: &mut [u8], n: usize) -> usize
         return text::bytes(out, n, b"no whole table\n");
     }
     let m = verdict(frames::right(bytes), out, n);
-    let len = field::get_u32(bytes, 4) as usize;
+    let len = TableHeader::length_in(bytes) as usize;
     behind_line(field::rest(bytes, len), out, m)
 }
 

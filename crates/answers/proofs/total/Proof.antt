@@ -1,10 +1,8 @@
 -- `total` meets its contract: the words of the sum, and the line's end behind them; a sum's parts make the sum.
-use mathlib.Core.Path.{_≡_, _∙_}
-use native.Mathlib.Omega.{arith}
+use mathlib.Core.Path.{_∙_}
 use borrow.Author.Needs.{needs}
-use Rattle.format.specs.Bytes.{sum}
 use Rattle.text.proofs.Laws.{laid-next}
-use Rattle.field.specs.Whole.{numberOf}
+use Rattle.field.proofs.Parts.{whole-number}
 use Rattle.answers.specs.Lines.{total}
 use Rattle.answers.proofs.total.Statement.{statement}
 use Rattle.answers.proofs.total.Tie as tie
@@ -16,8 +14,7 @@ returns c =
     let s = b .before .before .before .before in
     let u = s .before in
     let a = u .before .before .before .before .args in
-    let q : numberOf (u .u8sum .result) ≡ sum (a .bytes .now) = rw (u .u8sum .ensures) (omega arith) in
-    laid-next (a .text .now) 0 _ _ (s .summed .ensures) (b .byte .ensures) ∙ rw q
+    laid-next (a .text .now) 0 _ _ (s .summed .ensures) (b .byte .ensures) ∙ rw (u .u8sum .ensures, whole-number)
 
 pub total-spec : {M : Type 1} → statement M
 total-spec = tie.close (tie.spec (λ c κs. search needs) (λ c κs. search needs) (λ c κs. search needs) (λ c. search needs) returns)

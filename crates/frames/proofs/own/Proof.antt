@@ -7,4 +7,4 @@ use Rattle.frames.proofs.own.Tie as tie
 pub own-spec : {M : Type 1} → statement M
 own-spec =
     tie.close
-    (tie.spec (λ c κs. search needs) (λ c. search needs) (λ c κs. search needs) (λ c. c .first .ensures ∙ rw (c .before .get-u32 .ensures)))
+    (tie.spec (λ c κs. search needs) (λ c. search needs) (λ c κs. search needs) (λ c. c .first .ensures ∙ rw (c .before .length-in .ensures)))

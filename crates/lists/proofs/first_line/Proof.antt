@@ -21,7 +21,7 @@ returns c =
     ∙ laid-behind _ _ _ (l .spaced2 .ensures) _
     ∙ laid-behind _ _ _ (r .spaced .ensures) _
     ∙ laid-behind (a .out .now) 0 _ (s .bytes .ensures) _
-    ∙ rw (s .before .first .ensures, r .before .revision-in .ensures, l .before .get-u32 .ensures, ← value-byte (a .table .now) 8)
+    ∙ rw (s .before .first .ensures, r .before .revision-in .ensures, l .before .length-in .ensures, ← value-byte (a .table .now) 8)
 
 pub first-line-spec : {M : Type 1} → statement M
 first-line-spec =

@@ -23,7 +23,7 @@ returns-2 c =
     let e = g .before in
     let a = e .before .before .before .before .args in
     laid-next (a .out .now) (a .n) _ _ (v .verdict .ensures) (l .behind-line .ensures)
-    ∙ rw (g .right .ensures, r .rest .ensures, r .before .get-u32 .ensures, ← e .before .entire .ensures, not-false (e .before .entire .result) (e .if1 .left))
+    ∙ rw (g .right .ensures, r .rest .ensures, r .before .length-in .ensures, ← e .before .entire .ensures, not-false (e .before .entire .result) (e .if1 .left))
 
 pub checked-spec : {M : Type 1} → statement M
 checked-spec =

@@ -5,10 +5,10 @@ use Rattle.sums.proofs.entire.Statement.{statement}
 use Rattle.sums.proofs.entire.Tie as tie
 
 returns : tie.Need-returns
-returns c = rw (← c .before .get-u32 .ensures, lt-leb _ _ (c .if1 .taken))
+returns c = rw (← c .before .length-in .ensures, lt-leb _ _ (c .if1 .taken))
 
 returns-2 : tie.Need-returns-2
-returns-2 c = rw (← c .before .get-u32 .ensures, le-leb _ _ (c .if1 .left))
+returns-2 c = rw (← c .before .length-in .ensures, le-leb _ _ (c .if1 .left))
 
 pub entire-spec : {M : Type 1} → statement M
 entire-spec =

@@ -1,10 +1,7 @@
 -- `lines` meets its contract: the words of the sum, what is left of it, and the lines about the checksum, one behind the other.
-use mathlib.Core.Path.{_≡_, _∙_}
-use Prim.Native.Nat.{_%_}
-use native.Mathlib.Omega.{arith}
+use mathlib.Core.Path.{_∙_}
 use borrow.Author.Needs.{needs}
-use Rattle.format.specs.Bytes.{sum}
-use Rattle.field.specs.Whole.{numberOf}
+use Rattle.field.proofs.Parts.{whole-number}
 use Rattle.text.proofs.Laws.{laid-behind}
 use Rattle.sums.specs.Lines.{linesOf}
 use Rattle.sums.proofs.lines.Statement.{statement}
@@ -20,10 +17,8 @@ returns c =
     let s = w .before .before .before .before .before in
     let u = s .before .before in
     let a = u .before .before .before .args in
-    let n : numberOf (u .u8sum .result) ≡ sum (a .bytes .now) = rw (u .u8sum .ensures) (omega arith) in
-    let l : u .u8sum .result .low ≡ sum (a .bytes .now) % 256 = rw (u .u8sum .ensures) in
     k .checked .ensures ∙ laid-behind _ _ _ (e .byte .ensures) _ ∙ laid-behind _ _ _ (r .spaced .ensures) _ ∙ laid-behind _ _ _ (w .bytes .ensures) _
-    ∙ laid-behind (a .out .now) 0 _ (s .summed .ensures) _ ∙ rw (n, l)
+    ∙ laid-behind (a .out .now) 0 _ (s .summed .ensures) _ ∙ rw (u .u8sum .ensures, whole-number)
 
 pub lines-spec : {M : Type 1} → statement M
 lines-spec =

@@ -1,11 +1,12 @@
 -- `text::whole` meets its contract, with high as the measure: the number without its last digit is laid first, and that digit behind it.
 use mathlib.Core.Path.{_≡_, _∙_}
-use Prim.Native.Nat.{ℕ, _/_, _<_}
+use Prim.Native.Nat.{ℕ, _<_}
 use native.Mathlib.Omega.{arith}
 use borrow.Author.Needs.{needs}
 use borrow.Fn.Kinds.{In}
 use borrow.Fn.PlainCycle.{Measures, is, falls, and}
 use Rattle.field.specs.Whole.{numberOf}
+use Rattle.field.proofs.Parts.{whole-number}
 use Rattle.field.proofs.Whole.digit.Reads as digit-reads
 use Rattle.field.proofs.Whole.tenth.Reads as tenth-reads
 use Rattle.text.proofs.Laws.{laid-next}
@@ -81,9 +82,8 @@ whole-returns-2 t c =
     let e = w .before .before .before in
     let a = e .before .before .before .args in
     let n = numberOf (a .v) in
-    let q : numberOf (w .before .tenth .result) ≡ n / 10 = rw (w .before .tenth .ensures) (omega arith) in
     laid-next (a .out .now) (a .n) _ _ (w .whole .ensures) (b .byte .ensures)
-    ∙ rw (q, b .before .digit .ensures, digits-more 20 n (omega (arith, e .if1 .left)) (omega arith))
+    ∙ rw (w .before .tenth .ensures, whole-number, b .before .digit .ensures, digits-more 20 n (omega (arith, e .if1 .left)) (omega arith))
 
 pub +whole-spec : {M : Type 1} → statement M
 +whole-spec = close μ-whole λ t. whole-lts.spec (
