@@ -117,7 +117,7 @@ def srat(kind):
         32: (struct.pack("<BIQQB", 32, 1, 1 << 32, 1 << 32, 7), 40),
         33: (struct.pack("<BIQIB", 33, 1, 5, 6, 3), 32),
         34: (struct.pack("<BIHBBBB", 34, 1, 2, 3, 31, 7, 3), 32),
-        35: (struct.pack("<BIBI", 35, 1, 1, 2), 16),
+        36: (struct.pack("<BIIBI", 36, 1, 2, 1, 3), 20),
     }
     return lambda limit: recipe(1, [], same(bodies[kind]), limit)
 
@@ -185,8 +185,9 @@ RECIPES = {
     "memory ranges": srat(32),
     "initiators, ACPI": srat(33),
     "initiators, PCI": srat(34),
-    "RINTC": srat(35),
-    "RINTC, at the end one with a bad flag": refused(srat(35), struct.pack("<BIBI", 35, 1, 2, 2)),
+    "RINTC": srat(36),
+    "RINTC, at the end one with a bad flag": refused(srat(36), struct.pack("<BIIBI", 36, 1, 2, 2, 3)),
+    "RINTC, at the end one of the kind that is retired": refused(srat(36), struct.pack("<BIBI", 35, 1, 1, 2)),
     "domains": hmat((struct.pack("<BII", 48, 1, 2), 40)),
     "matrices of 0 by 0": hmat(matrix(0, 0)),
     "matrices of 1 by 1, set": hmat(matrix(1, 1, values(1, 1))),
@@ -328,7 +329,8 @@ def maths_at(maps=0):
 
 
 BRIDGE = struct.pack("<BBHIIIQQ", 0, 0, 32, 1, 1, 0, 1 << 32, 0x10000)
-RINTC = struct.pack("<BBHIII", 7, 16, 0, 1, 1, 2)
+RINTC = struct.pack("<BBHIIII", 7, 20, 0, 1, 2, 1, 3)
+OLD_RINTC = struct.pack("<BBHIII", 7, 16, 0, 2, 1, 3)
 MEMORY = struct.pack("<BBIHQQIIQ", 1, 40, 1, 0, 1 << 32, 1 << 32, 0, 7, 0)
 PCI = struct.pack("<BBBBIHBB12xII", 5, 32, 0, 1, 1, 2, 3, 255, 3, 0)
 ACPI = struct.pack("<BBBBIQI4xII", 5, 32, 0, 0, 1, 5, 6, 3, 0)
@@ -376,7 +378,10 @@ TABLES = {
     "full processors over short ones, at the end an unknown record": referring(processor_at() * 48 + cache_at(), [36 + 960], 36 + 940, last=unknown(9)),
     "full processors over 2-byte records, revision 4": short_front(1024, revision=4),
     "SRAT of 2-byte records": repeated(b"SRAT", unknown(7)),
-    "SRAT of RINTC": repeated(b"SRAT", RINTC),
+    "SRAT of RINTC of 16 bytes": repeated(b"SRAT", OLD_RINTC),
+    "SRAT of RINTC of 16 bytes, at the end an unknown record": lambda limit: table(b"SRAT", OLD_RINTC * ((limit - 50) // 16) + unknown(9)),
+    "SRAT of RINTC of 20 bytes": repeated(b"SRAT", RINTC),
+    "SRAT of RINTC of 20 bytes, at the end one of 16": lambda limit: table(b"SRAT", RINTC * ((limit - 64) // 20) + OLD_RINTC),
     "SRAT of memory ranges": repeated(b"SRAT", MEMORY),
     "SRAT of PCI initiators": repeated(b"SRAT", PCI),
     "SRAT of ACPI initiators": repeated(b"SRAT", ACPI),

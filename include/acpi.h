@@ -20,10 +20,12 @@ extern "C" {
 
 /* What a call refuses; beside each what place is then. A reference is refused by 6 if it names no node before its own, 0 where none is
  * allowed too, and by 10 if it names an earlier node of the other kind; 10 is looked for between 6 and 7. A window with fewer targets
- * than ways is refused by 11 where another record comes, before that record's own faults, or where the recipe ends, before 9. */
+ * than ways is refused by 11 where another record comes, before that record's own faults, or where the recipe ends, before 9. Kind 35 of
+ * an SRAT is refused by 12, which is looked for between 2 and 3. Of a table to be read out 30 is looked for first, then 29 in all of its
+ * records, then 32 in all of them, then 31. */
 enum acpi_refusal {
     ACPI_NO_HEAD = 1,    /* 0 */
-    ACPI_BAD_KIND = 2,   /* 2 to 8 and 10, but for 5: where the faulty record begins in the recipe */
+    ACPI_BAD_KIND = 2,   /* 2 to 8, 10 and 12, but for 5: where the faulty record begins in the recipe */
     ACPI_CUT = 3,
     ACPI_MISPLACED = 4,
     ACPI_BAD_FIELD = 5,  /* where the first bad field of the faulty record begins in the recipe */
@@ -33,6 +35,7 @@ enum acpi_refusal {
     ACPI_NO_ROOM = 9,    /* the length of the table */
     ACPI_WRONG_KIND = 10,
     ACPI_INCOMPLETE = 11, /* where the window begins in the recipe */
+    ACPI_RETIRED = 12,   /* kind 35, the RINTC without its domain: kind 36 has it */
 
     ACPI_SHORT = 20,     /* 20 to 24: 0 */
     ACPI_BAD_SIGN = 21,
@@ -45,22 +48,26 @@ enum acpi_refusal {
     ACPI_NO_RECORD = 28, /* the number of records */
     ACPI_UNKNOWN = 29,   /* where the unknown record begins in the table */
     ACPI_REVISION = 30,  /* 8 */
-    ACPI_NO_ROOM_OUT = 31 /* the length of the recipe */
+    ACPI_NO_ROOM_OUT = 31, /* the length of the recipe */
+    ACPI_RETIRED_OUT = 32 /* where the first record of ACPI_ROW_RINTC_16 begins in the table */
 };
 
-/* The rows that a record may be of; a mask has bit 1 << row for each row that is known. */
+/* The rows that a record may be of; a mask has bit 1 << row for each row that is known. A RINTC of an SRAT is of one of two: of 16 bytes,
+ * without a domain, or of 20 bytes, as ACPI 6.6 has it and recipes build it. Neither has the name ACPI_ROW_RINTC, which was the first one's:
+ * a program that used it looked for records that are not built any more, and does not compile until it says which it means. */
 enum acpi_row {
     ACPI_ROW_PROCESSOR = 0,
     ACPI_ROW_CACHE = 1,
     ACPI_ROW_MEMORY = 2,
     ACPI_ROW_INITIATOR = 3,
-    ACPI_ROW_RINTC = 4,
+    ACPI_ROW_RINTC_16 = 4,
     ACPI_ROW_DOMAIN = 5,
     ACPI_ROW_MATRIX = 6,
     ACPI_ROW_SIDE = 7,
     ACPI_ROW_BRIDGE = 8,
     ACPI_ROW_WINDOW = 9,
     ACPI_ROW_MATHS = 10,
+    ACPI_ROW_RINTC_20 = 11,
     ACPI_ROW_UNKNOWN = 255
 };
 
@@ -72,7 +79,7 @@ enum acpi_row {
  *   cache       flags, next level's place, size, sets, associativity, attributes, line size, id
  *   memory      domain, base, length, flags
  *   initiator   0, domain, hid, uid, flags for an ACPI handle; 1, domain, segment, bus, device, function, flags for PCI
- *   RINTC       uid, flags, clock domain
+ *   RINTC       uid, flags, clock domain of 16 bytes; domain, uid, flags, clock domain of 20 bytes
  *   domain      initiator, memory
  *   matrix      flags, data type, transfer size, initiators I, targets T, base unit
  *   side cache  domain, size, attributes, number of SMBIOS handles
@@ -95,13 +102,13 @@ enum acpi_answer {
 /* The longest table. */
 #define ACPI_LIMIT 1048576u
 
-/* Builds the table of a recipe into out. Refuses 1 to 11; place gets the table's length. */
+/* Builds the table of a recipe into out. Refuses 1 to 12; place gets the table's length. */
 uint32_t acpi_build(const uint8_t *recipe, size_t recipe_len, uint8_t *out, size_t out_len, size_t *place);
 
-/* Judges a recipe: what acpi_build would answer with room for the table. Refuses 1 to 8, 10 and 11; place gets the table's length. */
+/* Judges a recipe: what acpi_build would answer with room for the table. Refuses 1 to 8 and 10 to 12; place gets the table's length. */
 uint32_t acpi_check(const uint8_t *recipe, size_t recipe_len, size_t *place);
 
-/* Writes the recipe of a table, in its normal form, into out. Refuses 20 to 27 and 29 to 31; place gets the recipe's length. */
+/* Writes the recipe of a table, in its normal form, into out. Refuses 20 to 27 and 29 to 32; place gets the recipe's length. */
 uint32_t acpi_read_out(const uint8_t *table, size_t table_len, uint8_t *out, size_t out_len, size_t *place);
 
 /* Judges a table by the rows that the mask has. Refuses 20 to 27; place gets the number of records. */

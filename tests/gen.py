@@ -4,8 +4,8 @@ import random
 from model import *
 
 CREATOR = b'RVAT' + bytes([0, 0, 0, 1])  # the creator fields of the crate acpi_tables
-KINDS = {0: (16, 17, 18), 1: (32, 33, 34, 35), 2: (48, 49, 50, 51, 52, 53, 54), 3: (64, 65, 66, 67, 68)}
-TABLES = [0, 0, 1, 2, 2, 3, 3]  # how often each is drawn
+KINDS = {0: (16, 17, 18), 1: (32, 33, 34, 36), 2: (48, 49, 50, 51, 52, 53, 54), 3: (64, 65, 66, 67, 68)}
+TABLES = [0, 0, 1, 1, 2, 2, 3, 3]  # how often each is drawn
 
 
 def num(R, k):
@@ -53,7 +53,15 @@ def g_srat(R, k):
     if k == 34:
         return (bytes([34]) + by(num(R, 4), 4) + by(num(R, 2), 2)
                 + bytes([R.randrange(256), R.choice([0, 31, R.randrange(32)]), R.choice([0, 7, R.randrange(8)]), R.randrange(4)]))
-    return bytes([35]) + by(num(R, 4), 4) + bytes([R.randrange(2)]) + by(num(R, 4), 4)
+    rest = by(num(R, 4), 4) + bytes([R.randrange(2)]) + by(num(R, 4), 4)
+    # of the domain R knows nothing: a seed draws what it drew before RINTCs had one, and stored samples stay
+    return bytes([36]) + by(num(random.Random(rest), 4), 4) + rest
+
+
+def g_retired(R):
+    """a record of the kind that is retired: whole, cut, with a bad flag"""
+    record = bytes([35]) + by(num(R, 4), 4) + bytes([R.choice([0, 1, 1, 2, 255])]) + by(num(R, 4), 4)
+    return record[:R.choice([10, 10, 10, 1, R.randrange(1, 10)])]
 
 
 def g_matrix(R, I, T):
@@ -211,8 +219,12 @@ def small_caches():
             yield bytes([18, flags]) + bytes(4) + by(v[0], 4) + by(v[1], 4) + bytes([v[2], a | k << 2 | w << 4]) + by(v[6], 2) + by(v[7], 4)
 
 
+def small_rintc(domain=1, uid=2, flags=1, clock=3):
+    return bytes([36]) + by(domain, 4) + by(uid, 4) + bytes([flags]) + by(clock, 4)
+
+
 def small_srats():
-    """each record with every value of its small fields"""
+    """each record with every value of its small fields; every SRAT of up to three records"""
     for flags in range(8):
         yield bytes([32]) + by(1, 4) + by(2, 8) + by(3, 8) + bytes([flags])
     for flags in range(4):
@@ -220,6 +232,11 @@ def small_srats():
         for device in range(32):
             for function in range(8):
                 yield bytes([34]) + by(1, 4) + by(258, 2) + bytes([3, device, function, flags])
+    for flags in range(2):
+        yield small_rintc(0x01020304, 0x05060708, flags, 0x090a0b0c)
+    records = [bytes([32]) + by(1, 4) + by(2, 8) + by(3, 8) + bytes([7]), bytes([33]) + by(4, 4) + b'HIDHIDHI' + b'UID0' + bytes([3]), small_rintc(5)]
+    for n in range(4):
+        yield from map(b''.join, itertools.product(records, repeat=n))
 
 
 def small_hmats():
@@ -281,6 +298,7 @@ def largest():
     cells = b''.join(bytes([52, c // 255, c % 255]) + by(c, 2) for c in range(255 * 255))
     for t, records in ((0, (bytes([16]) + by(1, 4) + by(0, 4) + by(2, 4)) * 52427), (0, (cache + bytes([16]) + bytes(12) + bytes([17, 1, 0, 0, 0]) * 58)),
                        (0, bytes([16]) + bytes(12) + (bytes([16]) + by(9, 4) + by(1, 4) + by(3, 4)) * 52426), (1, memory * 26213),
+                       (1, small_rintc() * 52426),
                        (2, matrix + cells), (2, matrix * 7), (2, bytes([53]) + bytes(16) + bytes([54, 1, 2]) * 65535), (2, (bytes([48]) + by(1, 4) + by(2, 4)) * 26213),
                        (3, small_window(4) * 10485 + small_window(0)), (3, (bytes([67, 1]) + (bytes([68]) + by(3, 8)) * 255) * 485)):
         yield bytes([1, t]) + b'OEMOEMTABLETAB' + by(1, 4) + CREATOR + records
@@ -339,7 +357,7 @@ SPOILS = {
     32: [or_one(21, 8, 16, 32, 64, 128)],
     33: [or_one(17, 4, 8, 16, 32, 64, 128)],
     34: [or_one(8, 32, 64, 128), or_one(9, 8, 16, 32, 64, 128), or_one(10, 4, 8, 16, 32, 64, 128)],
-    35: [or_one(5, 2, 4, 8, 16, 32, 64, 128)],
+    36: [or_one(9, 2, 4, 8, 16, 32, 64, 128)],
     49: [or_one(1, 4, 8, 64, 128), set_one(2, 6, 7, 8, 255), set_one(3, 12, 13, 16, 255)],
     50: [set_one(1, 2, 3, 4, 5, 6, 255)],
     51: [set_one(1, 3, 2, 4, 5, 6, 255)],
@@ -433,7 +451,7 @@ def damage_recipe(R, t, h, recs):
     elif c == 2:    # a kind of another table
         recs.insert(R.randrange(len(recs) + 1), rand_record(R, R.choice([x for x in KINDS if x != t])))
     elif c == 3:    # unknown kinds, the edges of the ranges
-        k = R.choice([0, 2, 15, 19, 20, 31, 36, 47, 55, 56, 63, 64, 68, 69, 80, 96, 255, 128 + 16, R.randrange(256)])
+        k = R.choice([0, 2, 15, 19, 20, 31, 35, 37, 47, 55, 56, 63, 64, 68, 69, 80, 96, 255, 128 + 16, R.randrange(256)])
         recs.insert(R.randrange(len(recs) + 1), bytes([k]) + bytes(R.randrange(0, 24)))
     elif c == 4:    # second head, whole or cut
         recs.insert(R.randrange(len(recs) + 1), head(R, R.randrange(5))[:R.choice([28, 28, 1, 5])])
@@ -453,6 +471,8 @@ def damage_recipe(R, t, h, recs):
             recs[i] = spoil_field(R, recs[i])
     elif c in (10, 11, 12) and t == 3:     # the ways of a window
         spoil_window(R, recs)
+    elif c in (10, 11, 12) and t == 1:     # the kind that is retired
+        recs.insert(R.randrange(len(recs) + 1), g_retired(R))
     elif c in (10, 11, 12):  # a reference
         if recs:
             withref = [j for j, r in enumerate(recs) if r and r[0] in (16, 17, 18)]
@@ -653,9 +673,34 @@ def cedt_faults():
         yield nearly_full(left) + rest
 
 
+def nearly_full_srat(left):
+    """an SRAT with room for so many bytes more, a multiple of 4: of memory, and up to four initiators and a RINTC"""
+    fill = LIMIT - FRONT[1] - left
+    rintcs = fill % 8 // 4
+    initiators = next(n for n in range(5) if (fill - 20 * rintcs - 32 * n) % 40 == 0)
+    memory = (fill - 20 * rintcs - 32 * initiators) // 40
+    return bytes([1, 1]) + bytes(26) + (bytes([32]) + bytes(21)) * memory + (bytes([33]) + bytes(17)) * initiators + small_rintc() * rintcs
+
+
+def rintc_faults():
+    """the kind that is retired in each table, whole and cut, with each value of its flags, before and behind records good and bad; the
+    RINTC with its domain cut, and in other tables; both at the limit of the table's length"""
+    heads = [bytes([1, t]) + bytes(26) for t in KINDS]
+    srat, rintc, memory = heads[1], small_rintc(), bytes([32]) + bytes(21)
+    retired, bad = bytes([35]) + rintc[5:], small_rintc(flags=2)
+    yield from (h + record[:n] for h in heads for record in (retired, rintc) for n in range(1, len(record) + 1))
+    yield from (srat + retired[:5] + bytes([flags]) + retired[6:] for flags in range(256))
+    others = [b'', memory, rintc, bad, memory[:-1] + b'\x08', memory[:-1], b'\x01', bytes([31]), bytes([37]), retired, retired[:1], bytes([200])]
+    for before in [b'', memory, rintc, bad, retired]:
+        yield from (srat + before + record + behind for record in (retired, retired[:1], rintc, rintc[:1], bad) for behind in others)
+    yield heads[3] + bytes([65]) + bytes(22) + retired      # an incomplete window comes first
+    for left in (0, 16, 20, 24):
+        yield from (nearly_full_srat(left) + record for record in (retired, rintc, bad, rintc[:-1]))
+
+
 def faults():
     """small recipes with one bad record: every set of bad fields of each kind, with references good and bad; every sort of reference;
-    every kind in every table; nodes that are too full or not full enough"""
+    every kind in every table; nodes that are too full or not full enough; the kind that is retired"""
     heads = [bytes([1, t]) + bytes(26) for t in range(3)]
     cache, processor, resource = bytes([18]) + bytes(21), bytes([16]) + bytes(12), bytes([17]) + bytes(4)
     nodes = heads[0] + cache + processor     # nodes 1 and 2, and the record behind them is node 3
@@ -680,20 +725,40 @@ def faults():
     yield heads[2] + bytes([53]) + bytes(16) + bytes([54, 0, 0]) * 65536
     yield heads[0][:27]
     yield from every_kind()
+    yield from rintc_faults()
     yield from cedt_faults()
 
 
 def outside(recipe):
-    """a recipe that meets one of the differences of docs/DIFFERENCES.md"""
+    """a recipe that meets one of the differences of docs/DIFFERENCES.md; the RINTC's is made good by with_domains"""
     at, oblong = 28, False
     while at < len(recipe):
         kind = recipe[at]
-        if kind in (35, 64) or (kind == 52 and oblong) or (kind == 65 and recipe[at + 20] & 2):
+        if kind == 64 or (kind == 52 and oblong) or (kind == 65 and recipe[at + 20] & 2):
             return True
         if kind == 49:
             oblong = recipe[at + 12] != recipe[at + 13]
         at += 1 + BODY[kind]
     return recipe[1] == 0 and len(recipe) == 28
+
+
+def has_rintc(recipe):
+    """of a recipe that builds"""
+    at = 28
+    while at < len(recipe) and recipe[at] != 36:
+        at += 1 + BODY[recipe[at]]
+    return at < len(recipe)
+
+
+def with_domains(recipe, tab):
+    """the crate's SRAT of this recipe with what its RINTCs lack, the domain behind the four bytes of their frame, and the table's length for it"""
+    at, p, parts = 28, FRONT[1], [tab[:FRONT[1]]]
+    while at < len(recipe):
+        kind, size = recipe[at], {32: 40, 33: 32, 34: 32, 36: 16}[recipe[at]]
+        parts += [tab[p:p + 4], recipe[at + 1:at + 5] if kind == 36 else b'', tab[p + 4:p + size]]
+        at, p = at + 1 + BODY[kind], p + size
+    assert le(tab[4:8]) == p == len(tab)
+    return set_length(b''.join(parts))
 
 
 # ---------------------------------------------------------------- tables
@@ -752,6 +817,21 @@ def odd_record(R, t):
     return bytes([typ, n]) + bytes(R.choice([0, 0, 0, R.randrange(256)]) for _ in range(n - 2))
 
 
+def rintc_record(n, flags=1, zeros=0):
+    """of so many bytes; without a domain where there are 16"""
+    fields = by(zeros, 2) + (b'' if n <= 16 else by(0x01020304, 4)) + by(0x05060708, 4) + by(flags, 4) + by(0x090a0b0c, 4)
+    return bytes([7, n]) + fields.ljust(n - 2, b'\0')[:n - 2]
+
+
+def with_rintcs(R, tab):
+    """an SRAT with some RINTCs more, of 16 bytes most of them, which no recipe builds, of 20, and of other lengths"""
+    for _ in range(R.choice([1, 1, 2, 3])):
+        at = R.choice([p for p, _ in frames(tab)[1]] + [len(tab)])
+        n = R.choice([16, 16, 16, 16, 20, 20, R.choice([15, 17, 19, 21, 4, 24])])
+        tab = tab[:at] + rintc_record(n, R.choice([0, 1, 1, 1, 1, 1, 2]), R.choice([0] * 15 + [1])) + tab[at:]
+    return mend(set_length(tab))
+
+
 def matrix_256(R):
     I, T = R.choice([(256, 0), (0, 256), (256, 1), (255, 0), (0, 255)])
     vals = bytes(4 * I + 4 * T + 2 * I * T)
@@ -765,13 +845,14 @@ def crowded_record(R):
 
 
 # of a row: bytes that are zeros, and of a bridge the length that its version settles
-ZEROS = {0: [2, 3], 1: [2, 3], 2: [6, 7, 24, 25, 26, 27, 32, 33, 35, 39], 3: [2, 28, 29, 31], 4: [2, 3],
+ZEROS = {0: [2, 3], 1: [2, 3], 2: [6, 7, 24, 25, 26, 27, 32, 33, 35, 39], 3: [2, 28, 29, 31], 4: [2, 3], 11: [2, 3],
          5: [2, 3, 10, 11, 20, 21, 30, 39], 6: [2, 3, 11, 20, 21, 23], 7: [2, 3, 12, 15, 28, 29],
          8: [1, 12, 15, 24, 25, 26, 28, 31], 9: [1, 4, 7, 26, 27], 10: [1, 4, 5]}
 
 
-def row_here(t, typ):
-    return {(0, 0): 0, (0, 1): 1, (1, 1): 2, (1, 5): 3, (1, 7): 4, (2, 0): 5, (2, 1): 6, (2, 2): 7,
+def row_here(t, typ, n):
+    """the row of a type; of a RINTC the length tells which"""
+    return {(0, 0): 0, (0, 1): 1, (1, 1): 2, (1, 5): 3, (1, 7): 4 if n < 20 else 11, (2, 0): 5, (2, 1): 6, (2, 2): 7,
             (3, 0): 8, (3, 1): 9, (3, 2): 10}.get((t, typ))
 
 
@@ -784,14 +865,14 @@ def damage_table(R, tab):
     c = R.randrange(24)
     p, n = R.choice(fs) if fs else (None, None)
     wide, at, length_wide, least = FRAME[t]
-    row = None if p is None else row_here(t, le(tab[p:p + wide]))
+    row = None if p is None else row_here(t, le(tab[p:p + wide]), n)
     if c == 0:      # the table's length
         v = R.choice([len(b) - 1, len(b) + 1, FRONT[t] - 1, FRONT[t], 0, 36, 35, LIMIT, LIMIT + 1, 0xFFFFFFFF, len(b) - 2, len(b) - 4,
                       R.randrange(len(b) + 40)])
         b[4:8] = by(max(v, 0), 4)
     elif c == 1 and p is not None:   # a record's length
         d = R.choice([-4, -2, -1, 1, 2, 4, 8, -8, 16])
-        v = R.choice([n + d, n + d, 0, 1, 2, 3, 4, 7, 8, 255, n + 256, 252, 256])
+        v = R.choice([n + d, n + d, 0, 1, 2, 3, 4, 7, 8, 16, 20, 255, n + 256, 252, 256])
         b[p + at:p + at + length_wide] = by(v % 256 ** length_wide, length_wide)
     elif c == 2:     # cut, the length following
         return set_length(tab[:R.randrange(36, len(tab) + 1)])
@@ -842,7 +923,7 @@ def damage_table(R, tab):
     elif c in (12, 13, 14) and p is not None and row is not None:   # ranges and bit rules
         spots = {0: [(1, 1), (16, 4)], 1: [(4, 4), (5, 1), (7, 1), (25 - 4, 1), (12, 4), (16, 4), (20, 1), (21, 1), (22, 2), (24, 4)],
                  2: [(28, 4), (29, 1), (31, 1)], 3: [(3, 1), (24, 4), (25, 1), (27, 1)], 4: [(8, 4), (9, 1), (11, 1)],
-                 5: [(8, 2), (8, 1), (9, 1)], 6: [(8, 1), (9, 1), (10, 1)], 7: [(24, 4), (24, 1), (25, 1), (26, 1)],
+                 11: [(12, 4), (13, 1), (15, 1)], 5: [(8, 2), (8, 1), (9, 1)], 6: [(8, 1), (9, 1), (10, 1)], 7: [(24, 4), (24, 1), (25, 1), (26, 1)],
                  8: [(8, 4), (8, 1), (9, 1), (11, 1)], 9: [(24, 1), (25, 1), (28, 4), (28, 1), (29, 1), (31, 1), (32, 2), (32, 1), (33, 1)],
                  10: [(6, 1), (7, 1)]}[row]
         at, w = R.choice(spots)
@@ -889,6 +970,8 @@ def lent_table(R):
     tab = table(r)
     if not tab:
         tab = table(good_recipe(R, t))
+    if t == 1 and R.random() < .5:
+        tab = with_rintcs(R, tab)
     if c < .25:
         return tab
     if c < .28 and t in (2, 3):
@@ -902,24 +985,48 @@ def lent_table(R):
     return tab
 
 
-ROWS = (1 << 11) - 1    # the mask of every row
+ROWS = (1 << 12) - 1    # the mask of every row
+RINTCS = 1 << 4 | 1 << 11
 
 
 def mask(R):
-    return R.choice([ALL, ALL, ROWS, ROWS, 255, 0, R.randrange(ROWS + 1), R.randrange(ROWS + 1), 1 << R.randrange(11), ROWS ^ (1 << R.randrange(11)),
-                     R.randrange(1 << 32), ALL ^ ROWS, ALL ^ (1 << R.randrange(11))])
+    return R.choice([ALL, ALL, ROWS, ROWS, 255, 0, R.randrange(ROWS + 1), R.randrange(ROWS + 1), 1 << R.randrange(12), ROWS ^ (1 << R.randrange(12)),
+                     R.randrange(1 << 32), ALL ^ ROWS, ALL ^ (1 << R.randrange(12)), RINTCS, ROWS ^ RINTCS, ROWS ^ 1 << 11, ROWS ^ 1 << 4])
 
 
 def table_of_each():
-    """small tables of which each has records of all rows of its own"""
+    """small tables of which each has records of all rows of its own; an SRAT with the RINTC that no recipe builds too"""
     cache, processor, resource = (bytes([18, 255]) + by(0, 4) + by(4096, 4) + by(64, 4) + bytes([8, 26]) + by(64, 2) + by(5, 4),
                                   bytes([16]) + by(2, 4) + by(0, 4) + by(7, 4), bytes([17]) + by(1, 4))
     srat = bytes([32]) + by(1, 4) + by(2, 8) + by(3, 8) + b'\7' + bytes([33]) + by(1, 4) + b'ACPI0017' + by(9, 4) + b'\3'
-    srat += bytes([34]) + by(1, 4) + by(258, 2) + bytes([3, 31, 7, 3]) + bytes([35]) + by(7, 4) + b'\1' + by(5, 4)
+    srat += bytes([34]) + by(1, 4) + by(258, 2) + bytes([3, 31, 7, 3]) + small_rintc()
     hmat = bytes([48]) + by(1, 4) + by(2, 4) + bytes([49, 0x33, 5, 11]) + by(1000, 8) + b'\1\2' + bytes([53]) + by(4, 4) + by(5, 8) + by(0x402211, 4)
     cedt = b''.join(bytes([64]) + by(9, 4) + bytes([version]) + by(1 << 40, 8) for version in (0, 1)) + small_window(1, 1, 6, 31)
     for t, records in enumerate((cache + processor + resource, srat, hmat + bytes([54, 1, 2]), cedt + bytes([67, 6]) + (bytes([68]) + by(5, 8)) * 2)):
         yield table(bytes([1, t]) + bytes(26) + records)
+    yield srat_of(rintc_record(16), rintc_record(20))
+
+
+def srat_of(*records, revision=3):
+    empty = table(bytes([1, 1]) + bytes(26))
+    return mend(set_length(empty[:8] + bytes([revision]) + empty[9:] + b''.join(records)))
+
+
+def srat_tables_at_edges():
+    """SRATs of one RINTC in every small length and with each value of its flags; of one to three records, of which some are no RINTC, unknown
+    or refused, so that a RINTC without domain stands before and behind each; of other revisions"""
+    for n in range(2, 45):
+        yield from (srat_of(rintc_record(n, flags, zeros)) for flags in (0, 1, 2) for zeros in (0, 1, 256))
+    for n in (16, 20):
+        yield from (srat_of(rintc_record(n, flags)) for flags in (3, 4, 128, 255, 256, 1 << 16, 1 << 24, 1 << 31))
+    memory, unknown = bytes([1, 40]) + by(1, 4) + bytes(34), bytes([0, 16]) + bytes(14)
+    sorts = [rintc_record(16), rintc_record(16, 0), rintc_record(20), rintc_record(17), unknown, memory, rintc_record(16, 2), rintc_record(20, 2)]
+    for n in (2, 3):
+        yield from (srat_of(*some) for some in itertools.product(sorts, repeat=n))
+    for revision in (0, 1, 2, 4, 255):
+        yield from (srat_of(*some, revision=revision) for n in (1, 2) for some in itertools.product(sorts, repeat=n))
+    yield from (srat_of(rintc_record(16)) + behind for behind in (b'\0', rintc_record(16), unknown))
+    yield from (srat_of(rintc_record(16), bytes([7, n])) for n in (0, 1, 2, 3, 16, 20, 255))
 
 
 def touched(tab):
@@ -962,10 +1069,11 @@ def cedt_tables_at_edges():
 
 
 def faulty_tables():
-    """tables of every row, good and with each byte of their records changed; CEDTs at the edges of their rows"""
+    """tables of every row, good and with each byte of their records changed; SRATs and CEDTs at the edges of their rows"""
     for tab in table_of_each():
         yield tab
         yield from touched(tab)
+    yield from srat_tables_at_edges()
     yield from cedt_tables_at_edges()
 
 

@@ -1,4 +1,4 @@
-"""A reading of documents 01 and 02 in another language: pure functions on bytes, sharing no code with the crates. Of document 02: orders 1 to 3."""
+"""A reading of documents 01 and 02 in another language: pure functions on bytes, sharing no code with the crates. Of document 02: orders 1 to 4."""
 LIMIT = 1 << 20
 NAMES = (b'PPTT', b'SRAT', b'HMAT', b'CEDT')
 FRONT = (36, 48, 40, 36)
@@ -6,9 +6,10 @@ REV = (3, 3, 1, 1)
 TAIL = (b'', b'\x01\0\0\0' + bytes(8), bytes(4), b'')
 # of a record's frame: the type's width, where the length stands and its width, and the least length
 FRAME = ((1, 1, 1, 2), (1, 1, 1, 2), (2, 4, 4, 8), (1, 2, 2, 4))
-BODY = {1: 27, 16: 12, 17: 4, 18: 21, 32: 21, 33: 17, 34: 10, 35: 9,
+BODY = {1: 27, 16: 12, 17: 4, 18: 21, 32: 21, 33: 17, 34: 10, 36: 13,
         48: 8, 49: 13, 50: 5, 51: 5, 52: 4, 53: 16, 54: 2,
         64: 13, 65: 22, 66: 4, 67: 1, 68: 8}
+RETIRED = (35,)     # a kind of SRAT once: the RINTC without its domain
 # a record that joins a node: the kinds that it may stand directly behind
 BEHIND = {17: (16, 17), 50: (49, 50, 51, 52), 51: (49, 50, 51, 52), 52: (49, 50, 51, 52), 54: (53, 54), 66: (65, 66), 68: (67, 68)}
 # a window's code and its number of ways
@@ -29,7 +30,7 @@ def by(n, k):
 def table_of_kind(k):
     if 16 <= k <= 18:
         return 0
-    if 32 <= k <= 35:
+    if 32 <= k <= 36:
         return 1
     if 48 <= k <= 54:
         return 2
@@ -70,8 +71,8 @@ def rules(r, last=None):
         return [(17, r[17] <= 3)]
     if k == 34:
         return [(8, r[8] <= 31), (9, r[9] <= 7), (10, r[10] <= 3)]
-    if k == 35:
-        return [(5, r[5] <= 1)]
+    if k == 36:
+        return [(9, r[9] <= 1)]
     if k == 49:
         return [(1, r[1] & ~0x33 == 0), (2, r[2] <= 5), (3, r[3] <= 11)]
     if k == 50:
@@ -148,8 +149,10 @@ def parse(r):
     while p < len(r):
         judge_window(nodes, r[p:p + 1])
         k = r[p]
-        if k not in BODY or table_of_kind(k) != t:
+        if table_of_kind(k) != t:
             raise Stop(2, p)
+        if k in RETIRED:
+            raise Stop(12, p)
         e = p + 1 + BODY[k]
         if e > len(r):
             raise Stop(3, p)
@@ -191,10 +194,10 @@ def parse(r):
             dom, seg, bus, dev, fun, flags = cut(b, 4, 2, 1, 1, 1, 1)
             new = dict(kind=34, dom=dom, seg=seg, bus=bus, dev=dev, fun=fun, flags=flags)
             grow = 32
-        elif k == 35:
-            uid, flags, clock = cut(b, 4, 1, 4)
-            new = dict(kind=35, uid=uid, flags=flags, clock=clock)
-            grow = 16
+        elif k == 36:
+            dom, uid, flags, clock = cut(b, 4, 4, 1, 4)
+            new = dict(kind=36, dom=dom, uid=uid, flags=flags, clock=clock)
+            grow = 20
         elif k == 48:
             ini, mem = cut(b, 4, 4)
             new = dict(kind=48, ini=ini, mem=mem)
@@ -286,8 +289,8 @@ def node_bytes(n, nodes):
         return (bytes([5, 32, 0, 1]) + by(n['dom'], 4) + by(n['seg'], 2)
                 + bytes([n['bus'], n['dev'] * 8 + n['fun']]) + bytes(12)
                 + by(n['flags'], 4) + bytes(4))
-    if k == 35:
-        return bytes([7, 16, 0, 0]) + by(n['uid'], 4) + by(n['flags'], 4) + by(n['clock'], 4)
+    if k == 36:
+        return bytes([7, 20, 0, 0]) + by(n['dom'], 4) + by(n['uid'], 4) + by(n['flags'], 4) + by(n['clock'], 4)
     if k == 48:
         return (by(0, 2) + bytes(2) + by(40, 4) + by(1, 2) + bytes(2) + by(n['ini'], 4)
                 + by(n['mem'], 4) + bytes(20))
@@ -370,8 +373,8 @@ def node_recipe(n):
     if k == 34:
         return (bytes([34]) + by(n['dom'], 4) + by(n['seg'], 2)
                 + bytes([n['bus'], n['dev'], n['fun'], n['flags']]))
-    if k == 35:
-        return bytes([35]) + by(n['uid'], 4) + bytes([n['flags']]) + by(n['clock'], 4)
+    if k == 36:
+        return bytes([36]) + by(n['dom'], 4) + by(n['uid'], 4) + bytes([n['flags']]) + by(n['clock'], 4)
     if k == 48:
         return bytes([48]) + by(n['ini'], 4) + by(n['mem'], 4)
     if k == 49:
@@ -430,6 +433,8 @@ def row_of(t, rev, typ, b, mask):
             row = 3
         elif typ == 7 and n == 16:
             row = 4
+        elif typ == 7 and n == 20:
+            row = 11
     elif t == 2:
         if typ == 0 and n == 40:
             row = 5
@@ -474,6 +479,9 @@ def fields_of(row, b):
     if row == 4:
         z, uid, flags, clock = cut(b[2:], 2, 4, 4, 4)
         return z == 0 and flags <= 1, [uid, flags, clock]
+    if row == 11:
+        z, dom, uid, flags, clock = cut(b[2:], 2, 4, 4, 4, 4)
+        return z == 0 and flags <= 1, [dom, uid, flags, clock]
     z0 = le(b[2:4])
     if row == 5:
         f, z, ini, mem, z2 = cut(b[8:], 2, 2, 4, 4, 20)
@@ -585,6 +593,9 @@ def out(lent):
     for _, p, _, row, _ in recs:
         if row is None:
             raise Stop(29, p)
+    for _, p, _, row, _ in recs:
+        if row == 4:
+            raise Stop(32, p)
     ordinal = {0: 0}
     for i, rec in enumerate(recs):
         ordinal[rec[1]] = i + 1
@@ -604,8 +615,8 @@ def out(lent):
                 o.append(bytes([33]) + by(f[1], 4) + by(f[2], 8) + by(f[3], 4) + bytes([f[4]]))
             else:
                 o.append(bytes([34]) + by(f[1], 4) + by(f[2], 2) + bytes(f[3:7]))
-        elif row == 4:
-            o.append(bytes([35]) + by(f[0], 4) + bytes([f[1]]) + by(f[2], 4))
+        elif row == 11:
+            o.append(bytes([36]) + by(f[0], 4) + by(f[1], 4) + bytes([f[2]]) + by(f[3], 4))
         elif row == 5:
             o.append(bytes([48]) + by(f[0], 4) + by(f[1], 4))
         elif row == 6:
@@ -678,7 +689,7 @@ WORDS = {
     32: ('memory affinity', 'domain 4, base 8, length 8, flags 1'),
     33: ('generic initiator', 'domain 4, hid 8, uid 4, flags 1'),
     34: ('generic initiator', 'domain 4, segment 2, bus 1, device 1, function 1, flags 1'),
-    35: ('RINTC affinity', 'uid 4, flags 1, clock domain 4'),
+    36: ('RINTC affinity', 'domain 4, uid 4, flags 1, clock domain 4'),
     48: ('proximity domain', 'initiator 4, memory 4'),
     49: ('matrix', 'flags 1, data type 1, transfer size 1, base unit 8, initiators 1, targets 1'),
     50: ('initiator value', 'index 1, value 4'),

@@ -24,6 +24,7 @@ impl Refusal {
             9 | 31 => "NO ROOM",
             10 => "WRONG KIND",
             11 => "INCOMPLETE",
+            12 | 32 => "RETIRED",
             20 => "SHORT",
             21 => "BAD SIGN",
             22 => "BAD LENGTH",
@@ -44,7 +45,7 @@ impl fmt::Display for Refusal {
     fn fmt(&self, f: &mut fmt::Formatter<'_>) -> fmt::Result {
         let (number, name, place) = (self.number, self.name(), self.place);
         match number {
-            1..=8 | 10 | 11 => write!(f, "{number} {name} at byte {place} of the recipe"),
+            1..=8 | 10..=12 => write!(f, "{number} {name} at byte {place} of the recipe"),
             9 | 31 => write!(f, "{number} {name}, {place} bytes needed"),
             28 => write!(f, "{number} {name}, the table has {place}"),
             _ => write!(f, "{number} {name} at byte {place} of the table"),
@@ -99,7 +100,8 @@ pub enum Node {
         handle: Handle,
         flags: u32,
     },
-    Rintc {
+    /// Of 16 bytes: recipes do not build it any more, and a table that has it is not read out.
+    OldRintc {
         acpi_processor_uid: [u8; 4],
         flags: u32,
         clock_domain: u32,
@@ -141,6 +143,13 @@ pub enum Node {
         granularity: u8,
         xormaps: u8,
     },
+    /// Of 20 bytes.
+    Rintc {
+        proximity_domain: u32,
+        acpi_processor_uid: [u8; 4],
+        flags: u32,
+        clock_domain: u32,
+    },
     /// No known row fits.
     Unknown,
 }
@@ -177,7 +186,7 @@ fn node(row: u64, v: &[u64]) -> Node {
         },
         2 => Node::Memory { proximity_domain: v[0] as u32, base_address: v[1], length: v[2], flags: v[3] as u32 },
         3 => initiator(v),
-        4 => Node::Rintc { acpi_processor_uid: (v[0] as u32).to_le_bytes(), flags: v[1] as u32, clock_domain: v[2] as u32 },
+        4 => Node::OldRintc { acpi_processor_uid: (v[0] as u32).to_le_bytes(), flags: v[1] as u32, clock_domain: v[2] as u32 },
         5 => Node::Domain { initiator: v[0] as u32, memory: v[1] as u32 },
         6 => Node::Matrix {
             flags: v[0] as u8,
@@ -199,6 +208,12 @@ fn node(row: u64, v: &[u64]) -> Node {
             qtg_id: v[6] as u16,
         },
         10 => Node::Maths { granularity: v[0] as u8, xormaps: v[1] as u8 },
+        11 => Node::Rintc {
+            proximity_domain: v[0] as u32,
+            acpi_processor_uid: (v[1] as u32).to_le_bytes(),
+            flags: v[2] as u32,
+            clock_domain: v[3] as u32,
+        },
         _ => Node::Unknown,
     }
 }

@@ -36,21 +36,21 @@ fn answer(number: u32, place: usize) -> Result<usize, Refusal> {
 // In each call below the pointers and lengths are those of slices that live through it, and what is written is lent as
 // `&mut`, so it overlaps nothing else: this is all that the library asks of its caller.
 
-/// Builds the table of a recipe into `out`: its length, or refusal 1 to 11, which leaves `out` as it was.
+/// Builds the table of a recipe into `out`: its length, or refusal 1 to 12, which leaves `out` as it was.
 pub fn build(recipe: &[u8], out: &mut [u8]) -> Result<usize, Refusal> {
     let mut place = 0;
     let number = unsafe { acpi_build(recipe.as_ptr(), recipe.len(), out.as_mut_ptr(), out.len(), &mut place) };
     answer(number, place)
 }
 
-/// The length of a recipe's table, or refusal 1 to 8, 10 or 11: what [`build`] answers with room for it.
+/// The length of a recipe's table, or refusal 1 to 8 or 10 to 12: what [`build`] answers with room for it.
 pub fn check(recipe: &[u8]) -> Result<usize, Refusal> {
     let mut place = 0;
     let number = unsafe { acpi_check(recipe.as_ptr(), recipe.len(), &mut place) };
     answer(number, place)
 }
 
-/// Writes the recipe of a table, in its normal form, into `out`: its length, or refusal 20 to 27 and 29 to 31.
+/// Writes the recipe of a table, in its normal form, into `out`: its length, or refusal 20 to 27 and 29 to 32.
 pub fn read_out(table: &[u8], out: &mut [u8]) -> Result<usize, Refusal> {
     let mut place = 0;
     let number = unsafe { acpi_read_out(table.as_ptr(), table.len(), out.as_mut_ptr(), out.len(), &mut place) };

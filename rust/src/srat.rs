@@ -7,7 +7,7 @@ use alloc::vec::Vec;
 const MEMORY: u8 = 32;
 const INITIATOR_ACPI: u8 = 33;
 const INITIATOR_PCI: u8 = 34;
-const RINTC: u8 = 35;
+const RINTC: u8 = 36;
 
 /// An SRAT while its nodes are added.
 #[derive(Clone, Debug)]
@@ -51,6 +51,7 @@ impl SRAT {
     pub fn add_rintc_affinity(&mut self, ra: RintcAffinity) {
         let sink = self.recipe.sink();
         sink.byte(RINTC);
+        sink.dword(ra.proximity_domain);
         sink.vec(&ra.acpi_processor_uid);
         sink.byte(ra.flags);
         sink.dword(ra.clock_domain);
@@ -153,8 +154,11 @@ impl GenericInitiator {
     }
 }
 
+/// The interrupt controller of a RISC-V hart. It has a proximity domain first, as ACPI 6.6 has it; acpi_tables' leaves it out, and code
+/// for it says here which domain the hart is in.
 #[derive(Copy, Clone, Debug, Default)]
 pub struct RintcAffinity {
+    proximity_domain: u32,
     acpi_processor_uid: [u8; 4],
     flags: u8,
     clock_domain: u32,
@@ -163,8 +167,8 @@ pub struct RintcAffinity {
 impl RintcAffinity {
     const ENABLED: u8 = 1 << 0;
 
-    pub fn new(acpi_processor_uid: [u8; 4], clock_domain: u32) -> Self {
-        RintcAffinity { acpi_processor_uid, flags: 0, clock_domain }
+    pub fn new(proximity_domain: u32, acpi_processor_uid: [u8; 4], clock_domain: u32) -> Self {
+        RintcAffinity { proximity_domain, acpi_processor_uid, flags: 0, clock_domain }
     }
 
     pub fn enabled(mut self) -> Self {

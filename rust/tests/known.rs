@@ -80,7 +80,7 @@ fn affinities() {
     srat.add_memory_affinity(MemoryAffinity::new(1, 0x1_0000_0000, 0xc000_0000).enabled().hotpluggable().nonvolatile());
     srat.add_generic_initiator(GenericInitiator::new(2, Handle::new_pci(0x102, 0xc0, 31, 7)).enabled());
     srat.add_generic_initiator(GenericInitiator::new(3, Handle::new_acpi(*b"ACPI0017", [1, 2, 3, 4])).architectural());
-    srat.add_rintc_affinity(RintcAffinity::new([5, 0, 0, 1], 6).enabled());
+    srat.add_rintc_affinity(RintcAffinity::new(4, [5, 0, 0, 1], 6).enabled());
     let expected = table(
         "SRAT",
         3,
@@ -88,9 +88,37 @@ fn affinities() {
          0128 01000000 0000 0000000001000000 000000c000000000 00000000 07000000 0000000000000000
          0520 00 01 02000000 0201 c0 ff 000000000000000000000000 01000000 00000000
          0520 00 00 03000000 4143504930303137 01020304 00000000 02000000 00000000
-         0710 0000 05000001 01000000 06000000",
+         0714 0000 04000000 05000001 01000000 06000000",
     );
     assert_eq!(bytes(&srat), expected);
+}
+
+/// Without its domain a RINTC's kind is refused, whole or cut; its record is read, and does not come out as a recipe.
+#[test]
+fn a_rintc_without_domain() {
+    let mut srat = SRAT::new(*b"VMMOEM", *b"VMMTABLE", 7);
+    srat.add_memory_affinity(MemoryAffinity::new(1, 2, 3));
+    let mut recipe = srat.recipe().to_vec();
+    recipe.extend(from_hex("23 05000001 01 06000000"));
+    for length in [recipe.len(), 51] {
+        assert_eq!(check(&recipe[..length]).unwrap_err().to_string(), "12 RETIRED at byte 50 of the recipe");
+    }
+    let table = table(
+        "SRAT",
+        3,
+        "01000000 0000000000000000
+         0714 0000 04000000 05000001 01000000 06000000
+         0710 0000 05000001 01000000 06000000",
+    );
+    let nodes: Vec<_> = records(&table, EVERY).unwrap().map(|record| record.node).collect();
+    let (acpi_processor_uid, flags, clock_domain) = ([5, 0, 0, 1], 1, 6);
+    let expected = [
+        Node::Rintc { proximity_domain: 4, acpi_processor_uid, flags, clock_domain },
+        Node::OldRintc { acpi_processor_uid, flags, clock_domain },
+    ];
+    assert_eq!(nodes, expected);
+    assert_eq!((read(&table, 1 << 4, 0).unwrap().node, read(&table, 1 << 11, 1).unwrap().node), (Node::Unknown, Node::Unknown));
+    assert_eq!(read_out(&table, &mut []).unwrap_err().to_string(), "32 RETIRED at byte 68 of the table");
 }
 
 #[test]
@@ -282,14 +310,14 @@ fn fields_of_every_row() {
     srat.add_memory_affinity(MemoryAffinity::new(1, 2, 3).enabled());
     srat.add_generic_initiator(GenericInitiator::new(2, Handle::new_pci(0x102, 3, 4, 5)).architectural());
     srat.add_generic_initiator(GenericInitiator::new(3, Handle::new_acpi(*b"ACPI0017", [1, 2, 3, 4])).enabled());
-    srat.add_rintc_affinity(RintcAffinity::new([5, 0, 0, 1], 6).enabled());
+    srat.add_rintc_affinity(RintcAffinity::new(4, [5, 0, 0, 1], 6).enabled());
     let table = srat.try_table().unwrap();
     let nodes: Vec<_> = records(&table, EVERY).unwrap().map(|record| record.node).collect();
     let expected = [
         Node::Memory { proximity_domain: 1, base_address: 2, length: 3, flags: 1 },
         Node::Initiator { proximity_domain: 2, handle: Handle::new_pci(0x102, 3, 4, 5), flags: 2 },
         Node::Initiator { proximity_domain: 3, handle: Handle::new_acpi(*b"ACPI0017", [1, 2, 3, 4]), flags: 1 },
-        Node::Rintc { acpi_processor_uid: [5, 0, 0, 1], flags: 1, clock_domain: 6 },
+        Node::Rintc { proximity_domain: 4, acpi_processor_uid: [5, 0, 0, 1], flags: 1, clock_domain: 6 },
     ];
     assert_eq!(nodes, expected);
 

@@ -1,5 +1,5 @@
-/* Builds case C3 and a CEDT, reads them and reads them out through the library; refusals too; adds up bytes. Exit status 1 at the first
- * difference. */
+/* Builds case C3, a CEDT and an SRAT, reads them and reads them out through the library; refusals too; adds up bytes. Exit status 1 at the
+ * first difference. */
 #include "acpi.h"
 #include <stdio.h>
 #include <stdlib.h>
@@ -177,6 +177,51 @@ static void ways(void)
     expect("the target", place, SECOND_TARGET);
 }
 
+/* an SRAT: a head of zeros; a RINTC in domain 4 of uid 5, enabled, of clock domain 6 */
+static const uint8_t srat[42] = { [0] = 1, [1] = 1, [28] = 36, [29] = 4, [33] = 5, [37] = 1, [38] = 6 };
+
+/* the one RINTC of a table of so many bytes: its row and its fields */
+static void rintc(const uint8_t *table, size_t length, uint64_t row, const uint64_t *fields, size_t count)
+{
+    size_t place = 99;
+    uint64_t r[ACPI_ANSWER];
+    expect("read", acpi_read(table, length, ACPI_EVERY, 0, r, ACPI_ANSWER, &place), 0);
+    expect("records", place, 1);
+    expect("row", r[ACPI_ROW], row);
+    expect("length", r[ACPI_LENGTH], length - 48);
+    for (size_t i = 0; i < count; i++)
+        expect("field", r[ACPI_FIELDS + i], fields[i]);
+    expect("read without its row", acpi_read(table, length, ~(1u << row), 0, r, ACPI_ANSWER, &place), 0);
+    expect("row", r[ACPI_ROW], ACPI_ROW_UNKNOWN);
+}
+
+static void domains(void)
+{
+    static const uint64_t with[4] = { 4, 5, 1, 6 }, without[3] = { 5, 1, 6 };
+    size_t place = 99;
+    uint8_t table[68], out[sizeof srat], changed[sizeof srat];
+    expect("build", acpi_build(srat, sizeof srat, table, sizeof table, &place), 0);
+    expect("length", place, sizeof table);
+    rintc(table, 68, ACPI_ROW_RINTC_20, with, 4);
+    expect("read out", acpi_read_out(table, 68, out, sizeof out, &place), 0);
+    expect("length", place, sizeof srat);
+    expect("recipe", memcmp(out, srat, sizeof srat), 0);
+    memcpy(changed, srat, sizeof srat);
+    changed[28] = 35;
+    expect("the kind without domain", acpi_check(changed, sizeof changed, &place), ACPI_RETIRED);
+    expect("the record", place, 28);
+    expect("the same, cut", acpi_check(changed, 29, &place), ACPI_RETIRED);
+    expect("the record", place, 28);
+    /* the record of 16 bytes: the domain taken away, lengths and sum mended */
+    memmove(table + 52, table + 56, 12);
+    table[4] = 64;
+    table[49] = 16;
+    table[9] += 4 + 4 + 4;
+    rintc(table, 64, ACPI_ROW_RINTC_16, without, 3);
+    expect("read out without domain", acpi_read_out(table, 64, out, 0, &place), ACPI_RETIRED_OUT);
+    expect("the record", place, 48);
+}
+
 /* the sum, which fits */
 static uint64_t sum(const uint8_t *bytes, size_t length)
 {
@@ -218,6 +263,7 @@ int main(void)
     reads_out(table);
     windows();
     ways();
+    domains();
     sums();
     puts("built, read, listed, read out and added up");
     return 0;

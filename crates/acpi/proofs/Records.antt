@@ -7,7 +7,7 @@ use native.Mathlib.Omega.{arith}
 use lib.ListN.{length, take, drop, getElem?, length-drop}
 use lib.Seq.{drop-drop, drop-length, take-nil}
 use Rattle.format.specs.Bytes.{given, part, over}
-use Rattle.format.specs.Form.{Form, processor, cache, memory, acpi, pci, rintc, domain, matrix, side, bridge, window, xor}
+use Rattle.format.specs.Form.{Form, processor, cache, memory, acpi, pci, rintc, oldRintc, domain, matrix, side, bridge, window, xor}
 use Rattle.format.specs.Row.{Row, formIn}
 use Rattle.format.specs.Read.{Seen, accept, Reading, reading, readingOf, listIn, partOf, read, readPart}
 use Rattle.laws.proofs.Bytes.{over-next}
@@ -45,6 +45,7 @@ list-tail memory bs = drop-all bs
 list-tail acpi bs = drop-all bs
 list-tail pci bs = drop-all bs
 list-tail rintc bs = drop-all bs
+list-tail oldRintc bs = drop-all bs
 list-tail domain bs = drop-all bs
 list-tail (matrix i t) bs = tail-drop 32 bs
 list-tail (side n) bs = tail-drop 32 bs

@@ -11,7 +11,7 @@ use lib.ListN.{length, take, drop, replicate, length-replicate, length-append}
 use lib.Seq.{take-at}
 use borrow.Author.Tests.{leb-true, ltb-false}
 use Rattle.format.specs.Bytes.{pick, same, over}
-use Rattle.format.specs.Row.{Row, processors, caches, memories, initiators, rintcs, domains, matrices, sides, bridges, windows, xors}
+use Rattle.format.specs.Row.{Row, processors, caches, memories, initiators, oldRintcs, domains, matrices, sides, bridges, windows, xors, rintcs}
 use Rattle.format.specs.Build.{build, built}
 use Rattle.format.specs.Out.{readOut, outWritten}
 use Rattle.format.specs.Listing.{digits, spaced}
@@ -122,6 +122,7 @@ told-build (made.Length n) out = refl
 told-build (made.NoRoom n) out = refl
 told-build (made.Refused fault.NoHead p) out = refl
 told-build (made.Refused fault.BadKind p) out = refl
+told-build (made.Refused fault.Retired p) out = refl
 told-build (made.Refused fault.Cut p) out = refl
 told-build (made.Refused fault.Misplaced p) out = refl
 told-build (made.Refused fault.BadField p) out = refl
@@ -136,6 +137,7 @@ unfolding told toldBy
 told-out (out.Written n) buffer = refl
 told-out out.Revision buffer = refl
 told-out (out.Unknown p) buffer = refl
+told-out (out.Retired p) buffer = refl
 told-out (out.Room n) buffer = refl
 told-out (out.Refused refusal.Short) buffer = refl
 told-out (out.Refused refusal.BadSign) buffer = refl
@@ -168,13 +170,14 @@ content-as (some processors) vs = refl
 content-as (some caches) vs = refl
 content-as (some memories) vs = refl
 content-as (some initiators) vs = refl
-content-as (some rintcs) vs = refl
+content-as (some oldRintcs) vs = refl
 content-as (some domains) vs = refl
 content-as (some matrices) vs = refl
 content-as (some sides) vs = refl
 content-as (some bridges) vs = refl
 content-as (some windows) vs = refl
 content-as (some xors) vs = refl
+content-as (some rintcs) vs = refl
 
 handle-few : (h : Handle) → length (handleValues h) ≤ 4
 handle-few (handle.Acpi h u) = omega arith
@@ -186,11 +189,12 @@ few (node.Processor n) = omega arith
 few (node.Cache n) = omega arith
 few (node.Memory n) = omega arith
 few (node.Initiator n) = simp length-append (omega (arith, handle-few (n .handle)))
-few (node.Rintc n) = omega arith
+few (node.OldRintc n) = omega arith
 few (node.Domain n) = omega arith
 few (node.Matrix n) = omega arith
 few (node.Side n) = omega arith
 few (node.Bridge n) = omega arith
 few (node.Window n) = omega arith
 few (node.Xor n) = omega arith
+few (node.Rintc n) = omega arith
 few node.Unknown = omega arith

@@ -38,13 +38,13 @@ fn pptt() {
 }
 
 fn srat() {
-    let mut r = [0u8; 89];
+    let mut r = [0u8; 93];
     r[0] = 1;
     r[1] = 1;
     r[28] = 32;
     r[50] = 33;
     r[68] = 34;
-    r[79] = 35;
+    r[79] = 36;
     tell_all(b"SRAT\n", &r);
 }
 

@@ -45,7 +45,7 @@ fieldNames Cache = text "flags" ∷ text "next level" ∷ text "size" ∷ text "
 fieldNames Memory = text "domain" ∷ text "base" ∷ text "length" ∷ text "flags" ∷ []
 fieldNames Acpi = text "domain" ∷ text "hid" ∷ text "uid" ∷ text "flags" ∷ []
 fieldNames Pci = text "domain" ∷ text "segment" ∷ text "bus" ∷ text "device" ∷ text "function" ∷ text "flags" ∷ []
-fieldNames Rintc = text "uid" ∷ text "flags" ∷ text "clock domain" ∷ []
+fieldNames Rintc = text "domain" ∷ text "uid" ∷ text "flags" ∷ text "clock domain" ∷ []
 fieldNames Domain = text "initiator" ∷ text "memory" ∷ []
 fieldNames Matrix = text "flags" ∷ text "data type" ∷ text "transfer size" ∷ text "base unit" ∷ text "initiators" ∷ text "targets" ∷ []
 fieldNames Initiator = text "index" ∷ text "value" ∷ []
@@ -83,7 +83,7 @@ ifHolds place p k other = pick (ltb place (p + 1 + width (body k))) (some (k, p)
 -- the first record that ends behind a place: its kind, and where it begins
 unfoldable pub holder : ℕ → Calls → Option (Kind × ℕ)
 holder place done = none
-holder place (badKind p) = none
+holder place (badKind n p) = none
 holder place (cutOff p k) = ifHolds place p k none
 holder place (called p k vs rest) = ifHolds place p k (holder place rest)
 

@@ -124,6 +124,7 @@ fn rintc(at: usize, out: &mut [u8], n: usize) -> usize
     ensures { λ r. ⌜ (r, now (out .exit)) ≡ laid (now (out .entry)) n (fieldOf format.Rintc 0 at) ⌝ }
 {
     match at {
+        RintcAffinity::DOMAIN_AT => text::bytes(out, n, b"domain of the RINTC affinity"),
         RintcAffinity::UID_AT => text::bytes(out, n, b"uid of the RINTC affinity"),
         RintcAffinity::FLAGS_AT => text::bytes(out, n, b"flags of the RINTC affinity"),
         RintcAffinity::CLOCK_DOMAIN_AT => text::bytes(

@@ -6,7 +6,7 @@ use lib.Dec.{eqb}
 use Rattle.format.specs.Bytes.{pick, Answer, refused, given}
 use Rattle.laws.specs.Unique.{Fixes}
 use Rattle.laws.proofs.Sole.{sole, sole-meant, sole-pair}
-use Rattle.recipe.specs.declared.Refusal.the-variants.{NoHead, BadKind, Cut, Misplaced, BadField, Forward, WrongKind, FullNode, TooLong, Incomplete}
+use Rattle.recipe.specs.declared.Refusal.the-variants.{NoHead, BadKind, Retired, Cut, Misplaced, BadField, Forward, WrongKind, FullNode, TooLong, Incomplete}
 use Rattle.recipe.proofs.Unique.{refusalOf}
 use Rattle.build.specs.declared.Built.{Built}
 use Rattle.build.specs.declared.Built.the-variants.{Length, NoRoom, Refused}
@@ -24,6 +24,7 @@ built-back (Length n) = refl
 built-back (NoRoom n) = refl
 built-back (Refused NoHead p) = refl
 built-back (Refused BadKind p) = refl
+built-back (Refused Retired p) = refl
 built-back (Refused Cut p) = refl
 built-back (Refused Misplaced p) = refl
 built-back (Refused BadField p) = refl

@@ -13,7 +13,7 @@ use borrow.Author.Tests.{eqb-true, eqb-false, ne-eqb, leb-true, leb-false}
 use Rattle.format.specs.Bytes.{pick, at, le, over}
 use Rattle.format.specs.Layout.{layWith}
 use Rattle.format.specs.Table.{Table, pptt, front, limit}
-use Rattle.format.specs.Form.{Form, processor, cache, memory, acpi, pci, rintc, domain, matrix, side, bridge, window, xor, size, layout}
+use Rattle.format.specs.Form.{Form, processor, cache, memory, acpi, pci, rintc, oldRintc, domain, matrix, side, bridge, window, xor, size, layout}
 use Rattle.format.specs.Node.{Node, bytes, sizes, starts, placeOf}
 use Rattle.format.specs.Build.{records}
 use Rattle.laws.proofs.Bytes.{over-fits}
@@ -57,6 +57,7 @@ length-byte g memory vs rest o w = cc
 length-byte g acpi vs rest o w = cc
 length-byte g pci vs rest o w = cc
 length-byte g rintc vs rest o w = cc
+length-byte g oldRintc vs rest o w = absurd w
 length-byte g domain vs rest o w = cc
 length-byte g (matrix i t) vs rest o w = cc
 length-byte g (side n) vs rest o w = cc

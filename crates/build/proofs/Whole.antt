@@ -2,7 +2,7 @@
 use mathlib.Core.Path.{_≡_, refl}
 use Prim.Native.Nat.{ℕ, suc, _+_, _-_, _*_, _≤_, _<_}
 use mathlib.Core.List.{List, [], _∷_}
-use mathlib.Core.Bool.{Bool, true, false, not}
+use mathlib.Core.Bool.{Bool, true, false}
 use mathlib.Core.Option.{Option, none, some}
 use native.Mathlib.Omega.{arith}
 use lib.ListN.{length, drop, getD, length-drop}
@@ -13,7 +13,7 @@ use Rattle.format.specs.Bytes.{pick, at, part, Answer, refused, given, unless}
 use Rattle.format.specs.Layout.{width, fields}
 use Rattle.format.specs.Table.{Head, headOf}
 use Rattle.format.specs.Node.{Node, sizes}
-use Rattle.format.specs.Kind.{Kind, Processor, Resource, Cache, Memory, Acpi, Pci, Rintc, Domain, Matrix, Initiator, Target, Cell, Side, Handle, Bridge, Window, WindowTarget, Xor, Map, kindNumber, kindOf, body}
+use Rattle.format.specs.Kind.{Kind, Processor, Resource, Cache, Memory, Acpi, Pci, Rintc, Domain, Matrix, Initiator, Target, Cell, Side, Handle, Bridge, Window, WindowTarget, Xor, Map, kindNumber, kindOf, noKind, body}
 use Rattle.format.specs.Recipe.{Calls, done, badKind, cutOff, called, cutAs, skip, cut, newest, joined, setting, changes, stray, step, added, fault, lacking, faultAt, Meaning, means, since, run, headed, meaning}
 use Rattle.format.specs.Build.{table}
 use Rattle.laws.proofs.Finds.{never, then-given, unless-given}
@@ -100,7 +100,7 @@ run-end h q ns m e =
 pub run-keeps : (h : Head) (q : ℕ) (ns : List Node) (cs : Calls) (m : Meaning) → run h q ns cs ≡ given m → (h ≡ m .head) × (sizes ns ≤ sizes (m .nodes))
 unfolding run
 run-keeps h q ns done m e = let z = run-end h q ns m e in rw (← z) (refl, omega arith)
-run-keeps h q ns (badKind p) m e = never-given (lacking (newest ns) none) q 2 p e
+run-keeps h q ns (badKind n p) m e = never-given (lacking (newest ns) none) q n p e
 run-keeps h q ns (cutOff p k) m e = never-given (lacking (newest ns) (some k)) q 3 p e
 run-keeps h q ns (called p k vs rest) m e =
     let (i, z, r) = run-turn h q ns p k vs rest m e in
@@ -130,7 +130,7 @@ module _ (h : Head) (q : ℕ) (r : List ℕ) (ns : List Node) (p : ℕ) (m : Mea
       let (i, z, g) = run-turn h q ns p k vs (cut (h .table) (width (body k)) (suc p) (drop (suc p) r)) m f in
       record { whole = omega arith; free = i; sound = z; since = since ns (added k vs ns) p q; leads = rw (cut-skip (h .table) (width (body k)) (suc p) (drop (suc p) r), drop-drop) at g }
 
-  cut-first : p < length r → cut (h .table) 0 p (drop p r) ≡ cutAs (kindOf (h .table) (getD r p 0)) (drop (suc p) r) p (cut (h .table) (skip (kindOf (h .table) (getD r p 0))) (suc p) (drop (suc p) r))
+  cut-first : p < length r → cut (h .table) 0 p (drop p r) ≡ cutAs (kindOf (h .table) (getD r p 0)) (noKind (h .table) (getD r p 0)) (drop (suc p) r) p (cut (h .table) (skip (kindOf (h .table) (getD r p 0))) (suc p) (drop (suc p) r))
   unfolding cut
   cut-first l = rw (drop-cons r p 0 l)
 
@@ -139,13 +139,13 @@ module _ (h : Head) (q : ℕ) (r : List ℕ) (ns : List Node) (p : ℕ) (m : Mea
   unfolding cutAs
   turn-as k l e f = turn-at k (ltb (length (drop (suc p) r)) (width (body k))) l refl (rw (cut-first l, e) at f)
 
-  as-kind : (o : Option Kind) → p < length r → run h q ns (cutAs o (drop (suc p) r) p (cut (h .table) (skip o) (suc p) (drop (suc p) r))) ≡ given m → (k : Kind) × (o ≡ some k) × Turn h r ns p k m
+  as-kind : (o : Option Kind) (why : ℕ) → p < length r → run h q ns (cutAs o why (drop (suc p) r) p (cut (h .table) (skip o) (suc p) (drop (suc p) r))) ≡ given m → (k : Kind) × (o ≡ some k) × Turn h r ns p k m
   unfolding cutAs run
-  as-kind none l e = never-given (lacking (newest ns) none) q 2 p e
-  as-kind (some k) l e = (k, refl, turn-at k (ltb (length (drop (suc p) r)) (width (body k))) l refl e)
+  as-kind none why l e = never-given (lacking (newest ns) none) q why p e
+  as-kind (some k) why l e = (k, refl, turn-at k (ltb (length (drop (suc p) r)) (width (body k))) l refl e)
 
   pub turn : p < length r → run h q ns (cut (h .table) 0 p (drop p r)) ≡ given m → (k : Kind) × (kindOf (h .table) (getD r p 0) ≡ some k) × Turn h r ns p k m
-  turn l e = as-kind (kindOf (h .table) (getD r p 0)) l (rw (cut-first l) at e)
+  turn l e = as-kind (kindOf (h .table) (getD r p 0)) (noKind (h .table) (getD r p 0)) l (rw (cut-first l) at e)
 
 -- ---- the head
 

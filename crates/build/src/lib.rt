@@ -91,6 +91,7 @@ fn number_of(refusal: Refusal) -> u8
     match refusal {
         Refusal::NoHead => 1,
         Refusal::BadKind => 2,
+        Refusal::Retired => 12,
         Refusal::Cut => 3,
         Refusal::Misplaced => 4,
         Refusal::BadField => 5,

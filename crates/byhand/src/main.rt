@@ -107,7 +107,7 @@ fn affinities(out: &mut [u8]) {
     let pci = GenericInitiator::new(3, Handle::new_pci(1, 2, 31, 7))
         .enabled()
         .architectural();
-    let rintc = RintcAffinity::new(4, 9).enabled();
+    let rintc = RintcAffinity::new(1, 4, 9).enabled();
     memory.put(out, MEMORY);
     acpi.put(out, ACPI);
     pci.put(out, PCI);

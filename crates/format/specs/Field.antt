@@ -2,26 +2,33 @@
 use Prim.Native.Nat.{ℕ, _+_}
 use mathlib.Core.List.{List, [], _∷_}
 use mathlib.Core.Bool.{Bool}
+use mathlib.Core.Option.{Option, none, some}
 use Rattle.format.specs.Bytes.{pick}
 use Rattle.format.specs.Layout.{Item, wide}
-use Rattle.format.specs.Form.{Form, processor, cache, memory, acpi, pci, rintc, domain, matrix, side, bridge, window, xor, ranges}
+use Rattle.format.specs.Form.{Form, processor, cache, memory, acpi, pci, rintc, oldRintc, domain, matrix, side, bridge, window, xor, ranges}
 use Rattle.format.specs.Node.{Node}
 use Rattle.format.specs.Kind.{Kind, Processor, Cache, Memory, Acpi, Pci, Rintc, Domain, Matrix, Side, Bridge, Window, Xor, body}
 
--- the kind that makes a node of this form
-abbrev pub maker : Form → Kind
-maker (processor n) = Processor
-maker cache = Cache
-maker memory = Memory
-maker acpi = Acpi
-maker pci = Pci
-maker rintc = Rintc
-maker domain = Domain
-maker (matrix i t) = Matrix
-maker (side n) = Side
-maker (bridge n) = Bridge
-maker (window n) = Window
-maker (xor n) = Xor
+-- the kind that makes a node of this form; none a retired one
+abbrev pub maker : Form → Option Kind
+maker (processor n) = some Processor
+maker cache = some Cache
+maker memory = some Memory
+maker acpi = some Acpi
+maker pci = some Pci
+maker rintc = some Rintc
+maker oldRintc = none
+maker domain = some Domain
+maker (matrix i t) = some Matrix
+maker (side n) = some Side
+maker (bridge n) = some Bridge
+maker (window n) = some Window
+maker (xor n) = some Xor
+
+-- the body of the record of a kind, if there is one
+abbrev pub bodyOf : Option Kind → List Item
+bodyOf none = []
+bodyOf (some k) = body k
 
 -- the place of the first field whose test fails; 0 where none does; p: the place of the first
 unfoldable pub firstBad : ℕ → List Item → List Bool → ℕ
@@ -35,4 +42,4 @@ badIn k ts = firstBad 1 (body k) ts
 
 -- of a node: the first field outside its range
 unfoldable pub badField : Node → ℕ
-badField n = badIn (maker (n .form)) (ranges (n .form) (n .values))
+badField n = firstBad 1 (bodyOf (maker (n .form))) (ranges (n .form) (n .values))

@@ -11,6 +11,7 @@ use Rattle.format.specs.Layout.{Item, fix, fld, two, to, orNone}
 pub data Form : Type 0 where
   processor : ℕ → Form  -- with n resources
   cache memory acpi pci rintc domain : Form
+  oldRintc : Form  -- the RINTC without its domain
   matrix : ℕ → ℕ → Form  -- I by T
   side : ℕ → Form  -- with n SMBIOS handles
   bridge : ℕ → Form  -- with n bytes of registers
@@ -25,6 +26,7 @@ typeOf memory = 1
 typeOf acpi = 5
 typeOf pci = 5
 typeOf rintc = 7
+typeOf oldRintc = 7
 typeOf domain = 0
 typeOf (matrix i t) = 1
 typeOf (side n) = 2
@@ -39,7 +41,8 @@ size cache = 28
 size memory = 40
 size acpi = 32
 size pci = 32
-size rintc = 16
+size rintc = 20
+size oldRintc = 16
 size domain = 40
 size (matrix i t) = 32 + 4 * i + 4 * t + 2 * (i * t)
 size (side n) = 32 + 2 * n
@@ -77,8 +80,11 @@ layout pci =
     -- 0, handle 1, domain, segment, bus, device times 8 plus function, 12 zero, flags 4, 4 zero
     short pci (fix 1 0 ∷ fix 1 1 ∷ fld 4 ∷ fld 2 ∷ fld 1 ∷ two 1 8 ∷ fix 12 0 ∷ fld 4 ∷ fix 4 0 ∷ [])
 layout rintc =
+    -- 2 zero, domain, uid, flags 4, clock domain
+    short rintc (fix 2 0 ∷ fld 4 ∷ fld 4 ∷ fld 4 ∷ fld 4 ∷ [])
+layout oldRintc =
     -- 2 zero, uid, flags 4, clock domain
-    short rintc (fix 2 0 ∷ fld 4 ∷ fld 4 ∷ fld 4 ∷ [])
+    short oldRintc (fix 2 0 ∷ fld 4 ∷ fld 4 ∷ fld 4 ∷ [])
 layout domain =
     -- flags 1 (2), 2 zero, initiator, memory, 20 zero
     long domain (fix 2 1 ∷ fix 2 0 ∷ fld 4 ∷ fld 4 ∷ fix 20 0 ∷ [])
@@ -141,7 +147,8 @@ ranges cache vs =
 ranges memory vs = any ∷ any ∷ any ∷ leb (at vs 3) 7 ∷ []
 ranges acpi vs = any ∷ any ∷ any ∷ leb (at vs 3) 3 ∷ []
 ranges pci vs = any ∷ any ∷ any ∷ leb (at vs 3) 31 ∷ leb (at vs 4) 7 ∷ leb (at vs 5) 3 ∷ []
-ranges rintc vs = any ∷ leb (at vs 1) 1 ∷ []
+ranges rintc vs = any ∷ any ∷ leb (at vs 2) 1 ∷ []
+ranges oldRintc vs = any ∷ leb (at vs 1) 1 ∷ []
 ranges domain vs = []
 ranges (matrix i t) vs = matrixFlags (at vs 0) ∷ leb (at vs 1) 5 ∷ leb (at vs 2) 11 ∷ []
 ranges (side n) vs = any ∷ any ∷ sideAttributes (at vs 2) ∷ []

@@ -4,7 +4,7 @@ use mathlib.Core.List.{List, [], _∷_}
 use mathlib.Core.Bool.{Bool, false}
 use mathlib.Core.Option.{Option, none, some}
 use lib.Dec.{eqb}
-use Rattle.format.specs.Bytes.{find}
+use Rattle.format.specs.Bytes.{pick, find, has}
 use Rattle.format.specs.Layout.{Item, fld, to, orNone}
 use Rattle.format.specs.Table.{Table, pptt, srat, hmat, cedt}
 
@@ -20,7 +20,7 @@ kindNumber Cache = 18
 kindNumber Memory = 32
 kindNumber Acpi = 33
 kindNumber Pci = 34
-kindNumber Rintc = 35
+kindNumber Rintc = 36
 kindNumber Domain = 48
 kindNumber Matrix = 49
 kindNumber Initiator = 50
@@ -34,7 +34,7 @@ kindNumber WindowTarget = 66
 kindNumber Xor = 67
 kindNumber Map = 68
 
--- 16 to 18 PPTT, 32 to 35 SRAT, 48 to 54 HMAT, 64 to 68 CEDT
+-- 16 to 18 PPTT, 32 to 36 but 35 SRAT, 48 to 54 HMAT, 64 to 68 CEDT
 abbrev pub kinds : Table → List Kind
 kinds pptt = Processor ∷ Resource ∷ Cache ∷ []
 kinds srat = Memory ∷ Acpi ∷ Pci ∷ Rintc ∷ []
@@ -44,6 +44,17 @@ kinds cedt = Bridge ∷ Window ∷ WindowTarget ∷ Xor ∷ Map ∷ []
 -- the kind that a byte names in a recipe of this table
 unfoldable pub kindOf : Table → ℕ → Option Kind
 kindOf t b = find (λ k. eqb b (kindNumber k)) (kinds t)
+
+-- bytes that named a kind once: 35 the RINTC without its domain
+abbrev pub retired : Table → List ℕ
+retired pptt = []
+retired srat = 35 ∷ []
+retired hmat = []
+retired cedt = []
+
+-- why a byte names no kind: 12 where it is retired, else 2
+unfoldable pub noKind : Table → ℕ → ℕ
+noKind t b = pick (has (retired t) b) 12 2
 
 -- k is what came
 abbrev pub isKind : Kind → Option Kind → Bool
@@ -58,7 +69,7 @@ body Cache = fld 1 ∷ orNone 1 ∷ fld 4 ∷ fld 4 ∷ fld 1 ∷ fld 1 ∷ fld 
 body Memory = fld 4 ∷ fld 8 ∷ fld 8 ∷ fld 1 ∷ []
 body Acpi = fld 4 ∷ fld 8 ∷ fld 4 ∷ fld 1 ∷ []
 body Pci = fld 4 ∷ fld 2 ∷ fld 1 ∷ fld 1 ∷ fld 1 ∷ fld 1 ∷ []
-body Rintc = fld 4 ∷ fld 1 ∷ fld 4 ∷ []
+body Rintc = fld 4 ∷ fld 4 ∷ fld 1 ∷ fld 4 ∷ []
 body Domain = fld 4 ∷ fld 4 ∷ []
 body Matrix = fld 1 ∷ fld 1 ∷ fld 1 ∷ fld 8 ∷ fld 1 ∷ fld 1 ∷ []
 body Initiator = fld 1 ∷ fld 4 ∷ []

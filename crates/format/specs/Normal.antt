@@ -6,7 +6,7 @@ use lib.Dec.{eqb}
 use Rattle.format.specs.Bytes.{pick, ofGiven, part}
 use Rattle.format.specs.Layout.{lay}
 use Rattle.format.specs.Table.{code, Head}
-use Rattle.format.specs.Form.{Form, processor, cache, memory, acpi, pci, rintc, domain, matrix, side, bridge, window, xor}
+use Rattle.format.specs.Form.{Form, processor, cache, memory, acpi, pci, rintc, oldRintc, domain, matrix, side, bridge, window, xor}
 use Rattle.format.specs.Node.{Node}
 use Rattle.format.specs.Kind.{Kind, Processor, Resource, Cache, Memory, Acpi, Pci, Rintc, Domain, Matrix, Initiator, Target, Cell, Side, Handle, Bridge, Window, WindowTarget, Xor, Map, kindNumber, body}
 use Rattle.format.specs.Recipe.{Meaning, meaning}
@@ -32,7 +32,7 @@ settings i t vs =
     ++ (eachSet (λ j v. call Target (j ∷ v ∷ [])) 0 0 (part vs i t)
     ++ eachSet (λ e v. call Cell (e / t ∷ e % t ∷ v ∷ [])) 65535 0 (drop (i + t) vs))
 
--- the records of one node
+-- the records of one node; a retired one has none
 unfoldable pub calls : Form → List ℕ → List ℕ
 calls (processor n) vs = call Processor (take 3 vs) ++ each Resource (drop 3 vs)
 calls cache vs = call Cache vs
@@ -40,6 +40,7 @@ calls memory vs = call Memory vs
 calls acpi vs = call Acpi vs
 calls pci vs = call Pci vs
 calls rintc vs = call Rintc vs
+calls oldRintc vs = []
 calls domain vs = call Domain vs
 calls (matrix i t) vs = call Matrix (take 4 vs ++ (i ∷ t ∷ [])) ++ settings i t (drop 4 vs)
 calls (side n) vs = call Side (take 3 vs) ++ each Handle (drop 3 vs)

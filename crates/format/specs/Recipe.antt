@@ -8,9 +8,9 @@ use lib.Dec.{eqb, leb, ltb}
 use Rattle.format.specs.Bytes.{pick, both, all, firstOf, find, Answer, refused, given, andThen, orRefused, unless, at, part}
 use Rattle.format.specs.Layout.{width, fields, refsGood}
 use Rattle.format.specs.Table.{Table, tables, code, front, limit, Head, headOf}
-use Rattle.format.specs.Form.{Form, processor, cache, memory, acpi, pci, rintc, domain, matrix, side, bridge, window, xor, registers, ways, ranges}
+use Rattle.format.specs.Form.{Form, processor, cache, memory, acpi, pci, rintc, oldRintc, domain, matrix, side, bridge, window, xor, registers, ways, ranges}
 use Rattle.format.specs.Node.{Node, node, sizes, starts, isOrdinal, atOrdinal}
-use Rattle.format.specs.Kind.{Kind, Processor, Resource, Cache, Memory, Acpi, Pci, Rintc, Domain, Matrix, Initiator, Target, Cell, Side, Handle, Bridge, Window, WindowTarget, Xor, Map, kindNumber, kindOf, isKind, body}
+use Rattle.format.specs.Kind.{Kind, Processor, Resource, Cache, Memory, Acpi, Pci, Rintc, Domain, Matrix, Initiator, Target, Cell, Side, Handle, Bridge, Window, WindowTarget, Xor, Map, kindNumber, kindOf, noKind, isKind, body}
 use Rattle.format.specs.Field.{badIn}
 
 -- ---- cutting
@@ -18,14 +18,14 @@ use Rattle.format.specs.Field.{badIn}
 -- the records of a recipe, each with its place
 pub data Calls : Type 0 where
   done : Calls
-  badKind : ℕ → Calls  -- the kind is unknown, of another table, or a head's
+  badKind : (n p : ℕ) → Calls  -- 2: the kind is unknown, of another table, or a head's; 12: it is retired
   cutOff : ℕ → Kind → Calls  -- the body ends past the recipe
   called : ℕ → Kind → List ℕ → Calls → Calls  -- kind, fields, and the records behind
 
--- bs: what follows the kind byte, which stands at p; rest: the records behind this one
-unfoldable pub cutAs : Option Kind → List ℕ → ℕ → Calls → Calls
-cutAs none bs p rest = badKind p
-cutAs (some k) bs p rest = pick (ltb (length bs) (width (body k))) (cutOff p k) (called p k (fields (body k) bs) rest)
+-- n: why it is no kind; bs: what follows the kind byte, which stands at p; rest: the records behind this one
+unfoldable pub cutAs : Option Kind → ℕ → List ℕ → ℕ → Calls → Calls
+cutAs none n bs p rest = badKind n p
+cutAs (some k) n bs p rest = pick (ltb (length bs) (width (body k))) (cutOff p k) (called p k (fields (body k) bs) rest)
 
 -- how many bytes follow a kind byte
 abbrev pub skip : Option Kind → ℕ
@@ -36,7 +36,7 @@ skip (some k) = width (body k)
 unfoldable pub cut : Table → ℕ → ℕ → List ℕ → Calls
 cut t n p [] = done
 cut t (suc n) p (b ∷ bs) = cut t n (suc p) bs
-cut t zero p (b ∷ bs) = cutAs (kindOf t b) bs p (cut t (skip (kindOf t b)) (suc p) bs)
+cut t zero p (b ∷ bs) = cutAs (kindOf t b) (noKind t b) bs p (cut t (skip (kindOf t b)) (suc p) bs)
 
 -- ---- one record more; the nodes are listed newest first
 
@@ -74,6 +74,7 @@ newestAs memory us ns = other
 newestAs acpi us ns = other
 newestAs pci us ns = other
 newestAs rintc us ns = other
+newestAs oldRintc us ns = other
 newestAs domain us ns = other
 newestAs (matrix i t) us ns = aMatrix i t us ns
 newestAs (side n) us ns = aList Handle 0 65535 n (side (suc n)) us ns
@@ -174,7 +175,7 @@ lacking other o = 0
 -- q: the place of the newest node's record
 unfoldable pub run : Head → ℕ → List Node → Calls → Answer Meaning
 run h q ns done = unless (lacking (newest ns) none) q (given (means h ns))
-run h q ns (badKind p) = unless (lacking (newest ns) none) q (refused 2 p)
+run h q ns (badKind n p) = unless (lacking (newest ns) none) q (refused n p)
 run h q ns (cutOff p k) = unless (lacking (newest ns) (some k)) q (refused 3 p)
 run h q ns (called p k vs rest) =
     let n : ℕ = fault (h .table) ns k vs in
@@ -191,6 +192,6 @@ headed r =
     unless (firstOf ((not (eqb (at r 0) 1), 1) ∷ (ltb (length r) 28, 3) ∷ [])) 0
     (andThen (orRefused 5 1 (tableOf (at r 1))) (λ t. given (headOf t (part r 2 26))))
 
--- what a recipe means, or refusal 1 to 8, 10, 11
+-- what a recipe means, or refusal 1 to 8, 10 to 12
 unfoldable pub meaning : List ℕ → Answer Meaning
 meaning r = andThen (headed r) (λ h. run h 0 [] (cut (h .table) 0 28 (drop 28 r)))

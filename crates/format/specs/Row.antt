@@ -1,17 +1,17 @@
 -- The layout rows: which row a record of a table matches, and which a reader knows.
 use Prim.Native.Nat.{ℕ, _-_, _/_, _%_, _^_}
 use mathlib.Core.List.{List, [], _∷_}
-use mathlib.Core.Bool.{Bool}
+use mathlib.Core.Bool.{Bool, false}
 use mathlib.Core.Option.{Option, none, some}
 use lib.ListN.{length}
 use lib.Dec.{eqb, leb}
 use Rattle.format.specs.Bytes.{pick, all, find, at, value, part}
 use Rattle.format.specs.Table.{Table, pptt, srat, hmat, cedt, revision}
-use Rattle.format.specs.Form.{Form, processor, cache, memory, acpi, pci, rintc, domain, matrix, side, bridge, window, xor, registers, ways}
+use Rattle.format.specs.Form.{Form, processor, cache, memory, acpi, pci, rintc, oldRintc, domain, matrix, side, bridge, window, xor, registers, ways}
 
 -- the rows of the table of layouts
 pub data Row : Type 0 where
-  processors caches memories initiators rintcs domains matrices sides bridges windows xors : Row
+  processors caches memories initiators oldRintcs domains matrices sides bridges windows xors rintcs : Row
 
 -- their numbers
 abbrev pub rowNumber : Row → ℕ
@@ -19,18 +19,19 @@ rowNumber processors = 0
 rowNumber caches = 1
 rowNumber memories = 2
 rowNumber initiators = 3
-rowNumber rintcs = 4
+rowNumber oldRintcs = 4
 rowNumber domains = 5
 rowNumber matrices = 6
 rowNumber sides = 7
 rowNumber bridges = 8
 rowNumber windows = 9
 rowNumber xors = 10
+rowNumber rintcs = 11
 
 -- the rows of each table
 abbrev pub rows : Table → List Row
 rows pptt = processors ∷ caches ∷ []
-rows srat = memories ∷ initiators ∷ rintcs ∷ []
+rows srat = memories ∷ initiators ∷ oldRintcs ∷ rintcs ∷ []
 rows hmat = domains ∷ matrices ∷ sides ∷ []
 rows cedt = bridges ∷ windows ∷ xors ∷ []
 
@@ -40,13 +41,14 @@ home processors = pptt
 home caches = pptt
 home memories = srat
 home initiators = srat
-home rintcs = srat
+home oldRintcs = srat
 home domains = hmat
 home matrices = hmat
 home sides = hmat
 home bridges = cedt
 home windows = cedt
 home xors = cedt
+home rintcs = srat
 
 -- the type that the row names
 abbrev pub rowType : Row → ℕ
@@ -54,13 +56,14 @@ rowType processors = 0
 rowType caches = 1
 rowType memories = 1
 rowType initiators = 5
-rowType rintcs = 7
+rowType oldRintcs = 7
 rowType domains = 0
 rowType matrices = 1
 rowType sides = 2
 rowType bridges = 0
 rowType windows = 1
 rowType xors = 2
+rowType rintcs = 7
 
 -- the Length column, of a record's bytes
 unfoldable pub column : Row → List ℕ → Bool
@@ -68,13 +71,14 @@ column processors bs = all (leb 20 (length bs) ∷ leb (length bs) 252 ∷ eqb (
 column caches bs = eqb (length bs) 28
 column memories bs = eqb (length bs) 40
 column initiators bs = eqb (length bs) 32
-column rintcs bs = eqb (length bs) 16
+column oldRintcs bs = eqb (length bs) 16
 column domains bs = eqb (length bs) 40
 column matrices bs = all (leb 32 (length bs) ∷ leb (value (part bs 12 4)) 255 ∷ leb (value (part bs 16 4)) 255 ∷ [])
 column sides bs = leb 32 (length bs)
 column bridges bs = eqb (length bs) 32
 column windows bs = leb 40 (length bs)
 column xors bs = leb 8 (length bs)
+column rintcs bs = eqb (length bs) 20
 
 -- a row of the table matches on revision, type and Length column
 unfoldable pub matches : ℕ → ℕ → List ℕ → Row → Bool
@@ -90,13 +94,19 @@ formIn processors bs = processor ((length bs - 20) / 4)
 formIn caches bs = cache
 formIn memories bs = memory
 formIn initiators bs = pick (eqb (at bs 3) 0) acpi pci
-formIn rintcs bs = rintc
+formIn oldRintcs bs = oldRintc
 formIn domains bs = domain
 formIn matrices bs = matrix (value (part bs 12 4)) (value (part bs 16 4))
 formIn sides bs = side (value (part bs 30 2))
 formIn bridges bs = bridge (registers (value (part bs 8 4)))
 formIn windows bs = window (ways (value (part bs 24 1)))
 formIn xors bs = xor (value (part bs 7 1))
+formIn rintcs bs = rintc
+
+-- the row whose records are read, but neither built nor read out any more
+abbrev pub isRetired : Option Row → Bool
+isRetired none = false
+isRetired (some r) = eqb (rowNumber r) (rowNumber oldRintcs)
 
 -- ---- the mask of known rows
 

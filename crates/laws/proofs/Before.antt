@@ -1,5 +1,5 @@
 -- What a recipe of the older tables means has not moved, but for the place of 5 and the split of 6: record by record, since of the two lists of faults one has a line more, and no node of these tables lacks an entry.
-use mathlib.Core.Path.{_≡_, refl, sym, _∙_}
+use mathlib.Core.Path.{_≡_, refl, sym, ap, _∙_}
 use Prim.Native.Nat.{ℕ, zero, suc, _+_, _<_}
 use mathlib.Core.List.{List, [], _∷_, _++_}
 use mathlib.Core.Bool.{Bool, true, false, not}
@@ -8,17 +8,17 @@ use native.Mathlib.Nat.{add-zero}
 use native.Mathlib.Omega.{arith}
 use lib.ListN.{length, drop}
 use lib.Dec.{eqb, ltb}
-use borrow.Author.Tests.{ne-eqb, eqb-false}
+use borrow.Author.Tests.{ne-eqb, eqb-true, eqb-false}
 use Rattle.format.specs.Bytes.{pick, all, firstOf, Answer, given, andThen, orRefused, unless, at, part}
 use Rattle.format.specs.Layout.{width, fields, refsGood}
 use Rattle.format.specs.Table.{Table, pptt, srat, hmat, cedt, code, front, limit, Head, headOf}
 use Rattle.format.specs.Form.{processor, side}
 use Rattle.format.specs.Node.{Node, sizes, starts, isOrdinal, atOrdinal}
-use Rattle.format.specs.Kind.{Kind, Processor, Resource, Cache, Memory, Acpi, Pci, Rintc, Domain, Matrix, Initiator, Target, Cell, Side, Handle, Bridge, Window, WindowTarget, Xor, Map, kindOf, body}
+use Rattle.format.specs.Kind.{Kind, Processor, Resource, Cache, Memory, Acpi, Pci, Rintc, Domain, Matrix, Initiator, Target, Cell, Side, Handle, Bridge, Window, WindowTarget, Xor, Map, kindOf, noKind, body}
 use Rattle.format.specs.Field.{badIn}
 use Rattle.format.specs.Recipe.{Calls, done, badKind, cutOff, called, cutAs, skip, cut, Newest, aList, aMatrix, other, newest, joined, setting, step, added, fault, faultAt, since, lacking, run, tableOf, headed, meaning}
-use Rattle.laws.specs.Before.{faultBefore, runBefore, tableBefore, headedBefore, meaningBefore, Moves, good, same, field, kind, Stays}
-use Rattle.laws.proofs.Finds.{never, found-in}
+use Rattle.laws.specs.Before.{faultBefore, runBefore, tableBefore, headedBefore, meaningBefore, Moves, good, same, field, kind, NoRintc, Stays}
+use Rattle.laws.proofs.Finds.{never, found-test, found-in}
 use Rattle.laws.proofs.Fields.{all-bad}
 use Rattle.laws.proofs.Links.{refs-backward}
 use Rattle.laws.proofs.Grows.{View, seesProcessor, seesMatrix, seesSide, seesWindow, seesXor, seesOther, view, needless, kindHome}
@@ -103,14 +103,14 @@ step-free Map vs ns w o = absurd (w refl)
 -- every kind is the table's
 abbrev Own : Table → Calls → Type 0
 Own t done = Unit
-Own t (badKind p) = Unit
+Own t (badKind n p) = Unit
 Own t (cutOff p k) = Unit
 Own t (called p k vs rest) = (kindHome k ≡ t) × Own t rest
 
-own-as : (t : Table) (o : Option Kind) (bs : List ℕ) (p : ℕ) (rest : Calls) → ((k : Kind) → o ≡ some k → kindHome k ≡ t) → Own t rest → Own t (cutAs o bs p rest)
+own-as : (t : Table) (o : Option Kind) (n : ℕ) (bs : List ℕ) (p : ℕ) (rest : Calls) → ((k : Kind) → o ≡ some k → kindHome k ≡ t) → Own t rest → Own t (cutAs o n bs p rest)
 unfolding cutAs
-own-as t none bs p rest s w = tt
-own-as t (some k) bs p rest s w = long (ltb (length bs) (width (body k)))
+own-as t none n bs p rest s w = tt
+own-as t (some k) n bs p rest s w = long (ltb (length bs) (width (body k)))
   where
     long : (x : Bool) → Own t (pick x (cutOff p k) (called p k (fields (body k) bs) rest))
     long true = tt
@@ -120,7 +120,43 @@ cut-own : (t : Table) (n p : ℕ) (bs : List ℕ) → Own t (cut t n p bs)
 unfolding cut
 cut-own t n p [] = tt
 cut-own t (suc n) p (b ∷ bs) = cut-own t n (suc p) bs
-cut-own t zero p (b ∷ bs) = own-as t (kindOf t b) bs p (cut t (skip (kindOf t b)) (suc p) bs) (λ k e. kind-home t b k e) (cut-own t (skip (kindOf t b)) (suc p) bs)
+cut-own t zero p (b ∷ bs) = own-as t (kindOf t b) (noKind t b) bs p (cut t (skip (kindOf t b)) (suc p) bs) (λ k e. kind-home t b k e) (cut-own t (skip (kindOf t b)) (suc p) bs)
+
+-- no kind is retired
+abbrev Kept : Calls → Type 0
+Kept done = Unit
+Kept (badKind n p) = n ≡ 2
+Kept (cutOff p k) = Unit
+Kept (called p k vs rest) = Kept rest
+
+kept-as : (o : Option Kind) (n : ℕ) (bs : List ℕ) (p : ℕ) (rest : Calls) → n ≡ 2 → Kept rest → Kept (cutAs o n bs p rest)
+unfolding cutAs
+kept-as none n bs p rest i w = i
+kept-as (some k) n bs p rest i w = long (ltb (length bs) (width (body k)))
+  where
+    long : (x : Bool) → Kept (pick x (cutOff p k) (called p k (fields (body k) bs) rest))
+    long true = tt
+    long false = w
+
+-- of a table without a retired kind
+cut-kept : (t : Table) → ((b : ℕ) → noKind t b ≡ 2) → (n p : ℕ) (bs : List ℕ) → Kept (cut t n p bs)
+unfolding cut
+cut-kept t i n p [] = tt
+cut-kept t i (suc n) p (b ∷ bs) = cut-kept t i n (suc p) bs
+cut-kept t i zero p (b ∷ bs) = kept-as (kindOf t b) (noKind t b) bs p (cut t (skip (kindOf t b)) (suc p) bs) (i b) (cut-kept t i (skip (kindOf t b)) (suc p) bs)
+
+no-rintc : (cs : Calls) → NoRintc cs → Kept cs
+no-rintc done w = tt
+no-rintc (badKind n p) w = w
+no-rintc (cutOff p k) w = tt
+no-rintc (called p k vs rest) w = no-rintc rest (w .1)
+
+older-kept : (t : Table) (bs : List ℕ) → (t ≡ cedt → ⊥) → (t ≡ srat → NoRintc (cut srat 0 28 bs)) → Kept (cut t 0 28 bs)
+unfolding noKind
+older-kept pptt bs w h = cut-kept pptt (λ b. refl) 0 28 bs
+older-kept srat bs w h = no-rintc (cut srat 0 28 bs) (h refl)
+older-kept hmat bs w h = cut-kept hmat (λ b. refl) 0 28 bs
+older-kept cedt bs w h = absurd (w refl)
 
 older-table : (c : ℕ) → (c ≡ code cedt → ⊥) → tableOf c ≡ tableBefore c
 older-table c w = rw (ne-eqb c (code cedt) w) refl
@@ -129,24 +165,28 @@ older-table c w = rw (ne-eqb c (code cedt) w) refl
 table-older : (c : ℕ) (t : Table) → tableBefore c ≡ some t → t ≡ cedt → ⊥
 table-older c t e = found-in (λ t. t ≡ cedt → ⊥) (λ t. eqb c (code t)) (pptt ∷ srat ∷ hmat ∷ []) t (other-table refl, (other-table refl, (other-table refl, tt))) e
 
+-- the code that names a table is its own
+table-code : (c : ℕ) (t : Table) → tableBefore c ≡ some t → c ≡ code t
+table-code c t e = eqb-true c (code t) (found-test (λ t. eqb c (code t)) (pptt ∷ srat ∷ hmat ∷ []) t e)
+
 -- ---- the pass
 
-moves-run : (h : Head) (q : ℕ) (ns : List Node) (cs : Calls) → (h .table ≡ cedt → ⊥) → Own (h .table) cs → Free ns → Moves (runBefore h ns cs) (run h q ns cs)
+moves-run : (h : Head) (q : ℕ) (ns : List Node) (cs : Calls) → (h .table ≡ cedt → ⊥) → Own (h .table) cs → Kept cs → Free ns → Moves (runBefore h ns cs) (run h q ns cs)
 unfolding runBefore run faultBefore fault faultAt
-moves-run h q ns done older own free = rw (free none) (good _)
-moves-run h q ns (badKind p) older own free = rw (free none) (same 2 p (λ e. omega arith))
-moves-run h q ns (cutOff p k) older own free = rw (free (some k)) (same 3 p (λ e. omega arith))
-moves-run h q ns (called p k vs rest) older (own, behind) free =
+moves-run h q ns done older own kept free = rw (free none) (good _)
+moves-run h q ns (badKind n p) older own kept free = rw (free none, kept) (same 2 p (λ e. omega arith))
+moves-run h q ns (cutOff p k) older own kept free = rw (free (some k)) (same 3 p (λ e. omega arith))
+moves-run h q ns (called p k vs rest) older (own, behind) kept free =
     let s = step k vs ns in
     rw (free (some k))
     (moves-record (s .placed) (all (s .ranges)) (refsGood (isOrdinal (length (s .earlier))) (body k) vs) (refsGood (atOrdinal (starts (h .table) (s .earlier))) (body k) vs)
     (s .full) (ltb limit (front (h .table) + sizes (s .nodes))) p (badIn k (s .ranges)) (runBefore h (added k vs ns) rest) (run h (since ns (added k vs ns) p q) (added k vs ns) rest)
     (refs-backward (h .table) (s .earlier) (body k) vs) (bad-behind k (s .ranges))
-    (moves-run h (since ns (added k vs ns) p q) (added k vs ns) rest older behind (step-free k vs ns (λ e. older (sym own ∙ e)))))
+    (moves-run h (since ns (added k vs ns) p q) (added k vs ns) rest older behind kept (step-free k vs ns (λ e. older (sym own ∙ e)))))
 
 pub stays : (r : List ℕ) → Stays r
 unfolding meaningBefore meaning headedBefore headed
-stays r older = rw (older-table (at r 1) older) (by (eqb (at r 0) 1) (ltb (length r) 28) (tableBefore (at r 1)) refl)
+stays r (older, current) = rw (older-table (at r 1) older) (by (eqb (at r 0) 1) (ltb (length r) 28) (tableBefore (at r 1)) refl)
   where
     by : (x y : Bool) (o : Option Table) → tableBefore (at r 1) ≡ o
         → (let tests : ℕ = firstOf ((not x, 1) ∷ (y, 3) ∷ []) in
@@ -155,4 +195,6 @@ stays r older = rw (older-table (at r 1) older) (by (eqb (at r 0) 1) (ltb (lengt
     by false y o e = same 1 0 (λ e. omega arith)
     by true true o e = same 3 0 (λ e. omega arith)
     by true false none e = field 0 1 (omega arith)
-    by true false (some t) e = moves-run (headOf t (part r 2 26)) 0 [] (cut t 0 28 (drop 28 r)) (table-older (at r 1) t e) (cut-own t 0 28 (drop 28 r)) lacks-other
+    by true false (some t) e =
+        let w = table-older (at r 1) t e in
+        moves-run (headOf t (part r 2 26)) 0 [] (cut t 0 28 (drop 28 r)) w (cut-own t 0 28 (drop 28 r)) (older-kept t (drop 28 r) w (λ i. current (table-code (at r 1) t e ∙ ap code i))) lacks-other

@@ -12,7 +12,7 @@ use Rattle.format.specs.Bytes.{pick, firstOf, Bytes, at, part, refused, given, 
 use Rattle.format.specs.Layout.{width, fields, fixedOk}
 use Rattle.format.specs.Table.{Table, pptt, srat, hmat, cedt, code, front, limit, Head, headOf}
 use Rattle.format.specs.Node.{Node, sizes}
-use Rattle.format.specs.Kind.{Kind, Processor, Resource, Cache, Memory, Acpi, Pci, Rintc, Domain, Matrix, Initiator, Target, Cell, Side, Handle, Bridge, Window, WindowTarget, Xor, Map, kindNumber, kinds, kindOf, body}
+use Rattle.format.specs.Kind.{Kind, Processor, Resource, Cache, Memory, Acpi, Pci, Rintc, Domain, Matrix, Initiator, Target, Cell, Side, Handle, Bridge, Window, WindowTarget, Xor, Map, kindNumber, kinds, kindOf, noKind, body}
 use Rattle.format.specs.Recipe.{Calls, done, badKind, cutOff, called, cutAs, skip, cut, newest, step, added, fault, lacking, faultAt, Meaning, means, since, run, tableOf, headed, meaning}
 use Rattle.format.specs.Build.{tableFrom}
 use Rattle.format.specs.Out.{meaningOf}
@@ -56,7 +56,7 @@ sane-body Cache = (tt, (tt, (tt, (tt, (tt, (tt, (tt, (tt, tt))))))))
 sane-body Memory = (tt, (tt, (tt, (tt, tt))))
 sane-body Acpi = (tt, (tt, (tt, (tt, tt))))
 sane-body Pci = (tt, (tt, (tt, (tt, (tt, (tt, tt))))))
-sane-body Rintc = (tt, (tt, (tt, tt)))
+sane-body Rintc = (tt, (tt, (tt, (tt, tt))))
 sane-body Domain = (tt, (tt, tt))
 sane-body Matrix = (tt, (tt, (tt, (tt, (tt, (tt, tt))))))
 sane-body Initiator = (tt, (tt, tt))
@@ -91,14 +91,14 @@ other-table {t} {u} e f = eqb-false (code t) (code u) e (ap code f)
 
 abbrev Whole : Table → Calls → Type 0
 Whole t done = Unit
-Whole t (badKind p) = Unit
+Whole t (badKind n p) = Unit
 Whole t (cutOff p k) = Unit
 Whole t (called p k vs rest) = (kindHome k ≡ t) × Fit (body k) vs × Whole t rest
 
-whole-as : (t : Table) (o : Option Kind) (bs : List ℕ) (p : ℕ) (rest : Calls) → ((k : Kind) → o ≡ some k → kindHome k ≡ t) → Bytes bs → Whole t rest → Whole t (cutAs o bs p rest)
+whole-as : (t : Table) (o : Option Kind) (n : ℕ) (bs : List ℕ) (p : ℕ) (rest : Calls) → ((k : Kind) → o ≡ some k → kindHome k ≡ t) → Bytes bs → Whole t rest → Whole t (cutAs o n bs p rest)
 unfolding cutAs
-whole-as t none bs p rest s h w = tt
-whole-as t (some k) bs p rest s h w = long (ltb (length bs) (width (body k))) refl
+whole-as t none n bs p rest s h w = tt
+whole-as t (some k) n bs p rest s h w = long (ltb (length bs) (width (body k))) refl
   where
     long : (x : Bool) → ltb (length bs) (width (body k)) ≡ x → Whole t (pick x (cutOff p k) (called p k (fields (body k) bs) rest))
     long true e = tt
@@ -109,7 +109,7 @@ unfolding cut
 cut-whole t n p [] h = tt
 cut-whole t (suc n) p (b ∷ bs) h = cut-whole t n (suc p) bs (h .1)
 cut-whole t zero p (b ∷ bs) h =
-    whole-as t (kindOf t b) bs p (cut t (skip (kindOf t b)) (suc p) bs) (λ k e. kind-home t b k e) (h .1) (cut-whole t (skip (kindOf t b)) (suc p) bs (h .1))
+    whole-as t (kindOf t b) (noKind t b) bs p (cut t (skip (kindOf t b)) (suc p) bs) (λ k e. kind-home t b k e) (h .1) (cut-whole t (skip (kindOf t b)) (suc p) bs (h .1))
 
 -- ---- the pass
 
@@ -121,7 +121,7 @@ run-good h q ns done m w g l e =
     let (z, r) = unless-given (lacking (newest ns) none) q (given (means h ns)) e in
     let i : means h ns ≡ m = cc in
     rw (← i) (refl, whole-good (h .table) ns none refl z g, l)
-run-good h q ns (badKind p) m w g l e = absurd (let (z, r) = unless-given (lacking (newest ns) none) q (refused 2 p) e in let z : _≡_ {A = ℕ} 0 1 = cc in omega arith)
+run-good h q ns (badKind n p) m w g l e = absurd (let (z, r) = unless-given (lacking (newest ns) none) q (refused n p) e in let z : _≡_ {A = ℕ} 0 1 = cc in omega arith)
 run-good h q ns (cutOff p k) m w g l e = absurd (let (z, r) = unless-given (lacking (newest ns) (some k)) q (refused 3 p) e in let z : _≡_ {A = ℕ} 0 1 = cc in omega arith)
 run-good h q ns (called p k vs rest) m (own, f, w) g l e =
     let n = fault (h .table) ns k vs in

@@ -16,7 +16,7 @@ use Rattle.format.specs.Layout.{fld, to, orNone, width, lay, isGood, refsGood}
 use Rattle.format.specs.Table.{Table, pptt, srat, hmat, cedt, front, limit, Head}
 use Rattle.format.specs.Form.{Form, processor, cache, memory, acpi, pci, rintc, domain, side, bridge, window, xor, size, layout, registers, ways, ranges}
 use Rattle.format.specs.Node.{Node, node, Entry, sizes, starts, atOrdinal}
-use Rattle.format.specs.Kind.{Kind, Processor, Resource, Cache, Memory, Acpi, Pci, Rintc, Domain, Matrix, Initiator, Target, Cell, Side, Handle, Bridge, Window, WindowTarget, Xor, Map, kindNumber, kindOf, body}
+use Rattle.format.specs.Kind.{Kind, Processor, Resource, Cache, Memory, Acpi, Pci, Rintc, Domain, Matrix, Initiator, Target, Cell, Side, Handle, Bridge, Window, WindowTarget, Xor, Map, kindNumber, kindOf, noKind, body}
 use Rattle.format.specs.Recipe.{cutAs, skip, cut, called, newest, joined, step, added, lacking, since, run}
 use Rattle.format.specs.Normal.{call, each}
 use Rattle.laws.proofs.Finds.{All}
@@ -25,7 +25,7 @@ use Rattle.laws.proofs.Lays.{Fit, both-true, length-lay, fields-lay}
 use Rattle.laws.proofs.Fits.{fld-fit, refit}
 use Rattle.laws.proofs.Good.{GoodNode}
 use Rattle.laws.proofs.Grows.{Passed, no-fault, needless, kindHome}
-use Rattle.laws.proofs.Shapes.{second, fourth}
+use Rattle.laws.proofs.Shapes.{second, third, fourth}
 use Rattle.laws.proofs.Tests.{both-false}
 
 kind-back : (k : Kind) → kindOf (kindHome k) (kindNumber k) ≡ some k
@@ -60,7 +60,7 @@ cut-skip t (suc k) p (b ∷ bs) =
 
 -- what follows the record at p
 pub cut-at : (t : Table) (r : List ℕ) (p : ℕ) → p < length r → cut t 0 p (drop p r)
-    ≡ cutAs (kindOf t (at r p)) (drop (p + 1) r) p (cut t 0 (p + 1 + skip (kindOf t (at r p))) (drop (p + 1 + skip (kindOf t (at r p))) r))
+    ≡ cutAs (kindOf t (at r p)) (noKind t (at r p)) (drop (p + 1) r) p (cut t 0 (p + 1 + skip (kindOf t (at r p))) (drop (p + 1 + skip (kindOf t (at r p))) r))
 unfolding cut
 cut-at t r p h =
     let n = skip (kindOf t (at r p)) in
@@ -133,8 +133,8 @@ module _ (v : ℕ) (is vs : List ℕ) (ns : List Node) (free : Free ns) where
   unfolding body layout ranges refsGood step
   lead-rintc g l =
       let f = g .fit in
-      let b : at (drop 1 vs) 0 < 256 ^ 1 = omega (arith, leb-true (at vs 1) 1 (g .ruled), second vs) in
-      lead v is Rintc vs ns (free (some Rintc)) (f .1 .1 .1 .0, (refit b (f .1 .1 .1 .1 .0), f .1 .1 .1 .1 .1))
+      let b : at (drop 1 (drop 1 vs)) 0 < 256 ^ 1 = omega (arith, leb-true (at vs 2) 1 (g .ruled), third vs) in
+      lead v is Rintc vs ns (free (some Rintc)) (f .1 .1 .1 .0, (f .1 .1 .1 .1 .0, (refit b (f .1 .1 .1 .1 .1 .0), f .1 .1 .1 .1 .1 .1)))
       (record { place = refl; field = g .ruled; refs = refl; room = refl; short = l })
 
   pub lead-domain : GoodNode hmat (starts hmat ns) (node domain vs) → front hmat + sizes (node domain vs ∷ ns) ≤ limit → Leads v is hmat ns (call Domain vs) (node domain vs ∷ ns)

@@ -1,21 +1,21 @@
--- C1 to C12 and the cases of orders 1 and 2 hold by computation.
+-- C1 to C12 and the cases of orders 1, 2 and 4 hold by computation.
 use mathlib.Core.Path.{refl}
 use Rattle.format.specs.Bytes.{le, value, part, over, sum, same}
 use Rattle.format.specs.Layout.{width, layWith, fieldsWith, fixedOk, refsGood}
 use Rattle.format.specs.Form.{layout, registers, ways, cacheAttributes, matrixFlags, sideAttributes, ranges}
 use Rattle.format.specs.Row.{column, matches, rowOf, formIn}
-use Rattle.format.specs.Kind.{kindOf, body}
+use Rattle.format.specs.Kind.{kindOf, noKind, body}
 use Rattle.format.specs.Node.{bytes, nodeAt, sizes, starts, atPlace, isOrdinal, atOrdinal, placeOf, ordinalOf}
 use Rattle.format.specs.Field.{firstBad}
 use Rattle.format.specs.Recipe.{cutAs, cut, joined, setting, unset, step, fault, lacking, faultAt, run, headed, meaning}
 use Rattle.format.specs.Build.{records, header, summed, tableFrom, build, table, written, built}
 use Rattle.format.specs.Normal.{each, eachSet, settings, calls, callsOf, recipeOf, normal}
 use Rattle.format.specs.Read.{headFault, judgeHead, framed, frames, sound, recordFault, walk, walked, accept, shown, listIn, fieldsOf, partOf, read, readPart}
-use Rattle.format.specs.Out.{nodesFrom, outOf, meaningOf, readOut, recipe, outWritten}
-use Rattle.laws.specs.Cases.{CheckedByHand, ToldByHand, CedtByHand}
+use Rattle.format.specs.Out.{nodesFrom, old, outOf, meaningOf, readOut, recipe, outWritten}
+use Rattle.laws.specs.Cases.{CheckedByHand, ToldByHand, CedtByHand, RintcByHand}
 
 pub checked : CheckedByHand
-unfolding le value part over sum same width layWith fieldsWith fixedOk refsGood layout cacheAttributes matrixFlags sideAttributes ranges column matches rowOf formIn kindOf body bytes nodeAt sizes starts atPlace isOrdinal atOrdinal placeOf ordinalOf cutAs cut joined setting unset step fault firstBad faultAt lacking run headed meaning records header summed tableFrom build table written built each eachSet settings calls callsOf recipeOf normal headFault judgeHead framed frames sound recordFault walk walked accept shown listIn fieldsOf partOf read readPart nodesFrom outOf meaningOf readOut recipe outWritten
+unfolding le value part over sum same width layWith fieldsWith fixedOk refsGood layout cacheAttributes matrixFlags sideAttributes ranges column matches rowOf formIn kindOf noKind body bytes nodeAt sizes starts atPlace isOrdinal atOrdinal placeOf ordinalOf cutAs cut joined setting unset step fault firstBad faultAt lacking run headed meaning records header summed tableFrom build table written built each eachSet settings calls callsOf recipeOf normal headFault judgeHead framed frames sound recordFault walk walked accept shown listIn fieldsOf partOf read readPart nodesFrom old outOf meaningOf readOut recipe outWritten
 checked =
     record {
       c1 = (refl, refl, refl);
@@ -36,7 +36,7 @@ checked =
     }
 
 pub told : ToldByHand
-unfolding le value part width layWith fieldsWith refsGood cacheAttributes matrixFlags sideAttributes ranges kindOf body sizes starts isOrdinal atOrdinal cutAs cut joined setting unset step fault firstBad faultAt lacking run headed meaning build
+unfolding le value part width layWith fieldsWith refsGood cacheAttributes matrixFlags sideAttributes ranges kindOf noKind body sizes starts isOrdinal atOrdinal cutAs cut joined setting unset step fault firstBad faultAt lacking run headed meaning build
 told =
     record {
       table = λ room. refl;
@@ -56,7 +56,7 @@ told =
     }
 
 pub cedt-checked : CedtByHand
-unfolding le value part over sum same width layWith fieldsWith fixedOk refsGood layout registers ways ranges column matches rowOf formIn kindOf body bytes nodeAt sizes starts isOrdinal atOrdinal placeOf cutAs cut joined step fault firstBad faultAt lacking run headed meaning records header summed tableFrom build table each headFault judgeHead framed frames sound recordFault walk walked accept shown fieldsOf read
+unfolding le value part over sum same width layWith fieldsWith fixedOk refsGood layout registers ways ranges column matches rowOf formIn kindOf noKind body bytes nodeAt sizes starts isOrdinal atOrdinal placeOf cutAs cut joined step fault firstBad faultAt lacking run headed meaning records header summed tableFrom build table each headFault judgeHead framed frames sound recordFault walk walked accept shown fieldsOf read
 cedt-checked =
     record {
       empty = (refl, refl, refl);
@@ -87,4 +87,33 @@ cedt-checked =
       settled = refl;
       reserved = refl;
       free = refl;
+    }
+
+pub rintc-checked : RintcByHand
+unfolding le value part over sum same width layWith fieldsWith fixedOk refsGood layout ranges column matches rowOf formIn kindOf noKind body bytes nodeAt sizes starts isOrdinal atOrdinal placeOf cutAs cut step fault firstBad faultAt lacking run headed meaning records header summed tableFrom build table headFault judgeHead framed frames sound recordFault walk walked accept shown fieldsOf read nodesFrom old outOf meaningOf readOut
+rintc-checked =
+    record {
+      built = (refl, refl, refl);
+      frame = refl;
+      domain = refl;
+      uid = refl;
+      flags = refl;
+      clock = refl;
+      range = λ room. refl;
+      cut = λ room. refl;
+      retired = λ room. refl;
+      first = λ room. refl;
+      behind = λ room. refl;
+      elsewhere = λ room. refl;
+      unknown = λ room. refl;
+      short = refl;
+      long = refl;
+      dim = refl;
+      between = refl;
+      flagged = refl;
+      reserved = refl;
+      out = λ room. refl;
+      place = λ room. refl;
+      later = λ room. refl;
+      older = λ room. refl;
     }

@@ -10,20 +10,20 @@ use native.Mathlib.Omega.{arith}
 use lib.ListN.{length, drop, length-append}
 use lib.Dec.{eqb, leb, ltb}
 use borrow.Author.Tests.{eqb-true, eqb-false, eq-eqb, ne-eqb, ltb-true, ltb-false, not-false}
-use Rattle.format.specs.Bytes.{pick, both, all, at}
+use Rattle.format.specs.Bytes.{pick, both, all, has, at}
 use Rattle.format.specs.Layout.{refsGood}
 use Rattle.format.specs.Table.{Table, pptt, srat, hmat, cedt, front, limit}
 use Rattle.format.specs.Form.{Form, processor, cache, memory, acpi, pci, rintc, matrix, side, bridge, window, xor, registers, ways, typeOf}
 use Rattle.format.specs.Node.{Node, node, sizes, starts, isOrdinal, atOrdinal}
-use Rattle.format.specs.Kind.{Kind, Processor, Resource, Cache, Memory, Acpi, Pci, Rintc, Domain, Matrix, Initiator, Target, Cell, Side, Handle, Bridge, Window, WindowTarget, Xor, Map, kindNumber, kinds, kindOf, isKind, body}
+use Rattle.format.specs.Kind.{Kind, Processor, Resource, Cache, Memory, Acpi, Pci, Rintc, Domain, Matrix, Initiator, Target, Cell, Side, Handle, Bridge, Window, WindowTarget, Xor, Map, kindNumber, kinds, kindOf, retired, noKind, isKind, body}
 use Rattle.format.specs.Field.{badIn}
 use Rattle.format.specs.Recipe.{Newest, aList, aMatrix, other, newestAs, newest, joined, setting, changes, stray, step, added, fault, lacking, since, faultAt}
 use Rattle.laws.specs.Words.{FirstOf, NoneOf, FirstNot, References}
-use Rattle.laws.specs.Demand1.{Belongs, joins, After, earlier, maker, counts, Ranged, places, Full, Lacks, Backward, Names, recordFaults, Where, OfKind}
+use Rattle.laws.specs.Demand1.{Belongs, Retired, joins, After, earlier, maker, counts, Ranged, places, Full, Lacks, Backward, Names, recordFaults, Where, OfKind}
 use Rattle.laws.proofs.Finds.{never, All, found-test, found-in}
 use Rattle.laws.proofs.Words.{Tests, TestsAll, tests-every, found-none, among-none, among-cases, among-more, tests-leb, tests-ltb, tests-true, tests-not, tests-both, tests-as, tests-rules, tests-references, Mirrors, none-of, first-of, first-not, offsets, first-bad}
 use Rattle.laws.proofs.Links.{length-starts}
-use Rattle.laws.proofs.Grows.{View, seesProcessor, seesMatrix, seesSide, seesWindow, seesXor, seesOther, view, needless, kind-number}
+use Rattle.laws.proofs.Grows.{View, seesProcessor, seesMatrix, seesSide, seesWindow, seesXor, seesOther, view, needless, none-retired, kind-number}
 
 -- ---- the kind of a byte
 
@@ -45,27 +45,56 @@ beyond a b h d = omega arith
 outside : (a b : ℕ) → a + 1 ≤ b → b ≤ a → ⊥
 outside a b h l = omega arith
 
-pub kind-none : (t : Table) (b : ℕ) → kindOf t b ≡ none → Belongs t b → ⊥
-unfolding kindOf
-kind-none t b e h = by t (found-none (λ k. eqb b (kindNumber k)) (kinds t) e) h
+-- why a byte names no kind
+pub no-kind : (t : Table) (b : ℕ) → kindOf t b ≡ none → ((noKind t b ≡ 2) × (Belongs t b → ⊥)) ⊎ ((noKind t b ≡ 12) × Retired t b)
+unfolding kindOf noKind
+no-kind t b e = by t (found-none (λ k. eqb b (kindNumber k)) (kinds t) e)
   where
     past : (a : ℕ) → a ≤ b → eqb b a ≡ false → a + 1 ≤ b
     past a l q = beyond a b l (eqb-false b a q)
 
-    by : (t : Table) → All (λ k. eqb b (kindNumber k) ≡ false) (kinds t) → Belongs t b → ⊥
-    by pptt m h = outside 18 b (past 18 (past 17 (past 16 (h .0) (m .0)) (m .1 .0)) (m .1 .1 .0)) (h .1)
-    by srat m h = outside 35 b (past 35 (past 34 (past 33 (past 32 (h .0) (m .0)) (m .1 .0)) (m .1 .1 .0)) (m .1 .1 .1 .0)) (h .1)
-    by hmat m h =
-        outside 54 b
-        (past 54 (past 53 (past 52 (past 51 (past 50 (past 49 (past 48 (h .0) (m .0)) (m .1 .0)) (m .1 .1 .0)) (m .1 .1 .1 .0)) (m .1 .1 .1 .1 .0)) (m .1 .1 .1 .1 .1 .0)) (m .1 .1 .1 .1 .1 .1 .0)) (h .1)
-    by cedt m h = outside 68 b (past 68 (past 67 (past 66 (past 65 (past 64 (h .0) (m .0)) (m .1 .0)) (m .1 .1 .0)) (m .1 .1 .1 .0)) (m .1 .1 .1 .1 .0)) (h .1)
+    in-srat : All (λ k. eqb b (kindNumber k) ≡ false) (kinds srat) → (x : Bool) → eqb b 35 ≡ x
+        → ((_≡_ {A = ℕ} (pick (pick x true false) 12 2) 2) × (Belongs srat b → ⊥)) ⊎ ((_≡_ {A = ℕ} (pick (pick x true false) 12 2) 12) × Retired srat b)
+    in-srat m true q = let i = eqb-true b 35 q in inr (refl, (omega arith, i))
+    in-srat m false q =
+        inl (refl, λ h. outside 36 b (past 36 (past 35 (past 34 (past 33 (past 32 (h .0) (m .0)) (m .1 .0)) (m .1 .1 .0)) q) (m .1 .1 .1 .0)) (h .1))
+
+    by : (t : Table) → All (λ k. eqb b (kindNumber k) ≡ false) (kinds t)
+        → ((_≡_ {A = ℕ} (pick (has (retired t) b) 12 2) 2) × (Belongs t b → ⊥)) ⊎ ((_≡_ {A = ℕ} (pick (has (retired t) b) 12 2) 12) × Retired t b)
+    by pptt m = inl (refl, λ h. outside 18 b (past 18 (past 17 (past 16 (h .0) (m .0)) (m .1 .0)) (m .1 .1 .0)) (h .1))
+    by srat m = in-srat m (eqb b 35) refl
+    by hmat m =
+        inl (
+          refl,
+          λ h. outside 54 b
+              (past 54 (past 53 (past 52 (past 51 (past 50 (past 49 (past 48 (h .0) (m .0)) (m .1 .0)) (m .1 .1 .0)) (m .1 .1 .1 .0)) (m .1 .1 .1 .1 .0)) (m .1 .1 .1 .1 .1 .0)) (m .1 .1 .1 .1 .1 .1 .0)) (h .1),
+        )
+    by cedt m = inl (refl, λ h. outside 68 b (past 68 (past 67 (past 66 (past 65 (past 64 (h .0) (m .0)) (m .1 .0)) (m .1 .1 .0)) (m .1 .1 .1 .0)) (m .1 .1 .1 .1 .0)) (h .1))
+
+-- no kind is retired
+kind-current : (t : Table) (b : ℕ) (k : Kind) → OfKind t b k → Retired t b → ⊥
+kind-current t b k o r = none-retired k (sym (o .1) ∙ r .1)
 
 pub kind-is : (t : Table) (b : ℕ) (k : Kind) → OfKind t b k → kindOf t b ≡ some k
 kind-is t b k (h, q) = by (kindOf t b) refl
   where
     by : (o : Option Kind) → kindOf t b ≡ o → o ≡ some k
-    by none e = absurd (kind-none t b e h)
+    by none e = absurd (⊎-elim (λ d. d .1 h) (λ d. kind-current t b k (h, q) (d .1)) (no-kind t b e))
     by (some j) e = ap some (kind-number j k (sym (kind-then t b j e .1) ∙ q))
+
+pub bad-none : (t : Table) (b : ℕ) → (Belongs t b → ⊥) → (kindOf t b ≡ none) × (noKind t b ≡ 2)
+bad-none t b h = by (kindOf t b) refl
+  where
+    by : (o : Option Kind) → kindOf t b ≡ o → (o ≡ none) × (noKind t b ≡ 2)
+    by none e = (refl, ⊎-elim (λ d. d .0) (λ d. absurd (h (d .1 .0))) (no-kind t b e))
+    by (some k) e = absurd (h (kind-then t b k e .0))
+
+pub retired-none : (t : Table) (b : ℕ) → Retired t b → (kindOf t b ≡ none) × (noKind t b ≡ 12)
+retired-none t b r = by (kindOf t b) refl
+  where
+    by : (o : Option Kind) → kindOf t b ≡ o → (o ≡ none) × (noKind t b ≡ 12)
+    by none e = (refl, ⊎-elim (λ d. absurd (d .1 (r .0))) (λ d. d .0) (no-kind t b e))
+    by (some k) e = absurd (kind-current t b k (kind-then t b k e) r)
 
 -- ---- the newest node, and the kind byte of the record directly before
 
@@ -489,7 +518,7 @@ target-comes : (t : Table) (b : ℕ) → Tests (isKind WindowTarget (kindOf t b)
 target-comes t b = by (kindOf t b) refl
   where
     by : (o : Option Kind) → kindOf t b ≡ o → Tests (isKind WindowTarget o) (OfKind t b WindowTarget)
-    by none e = tests-no λ h. kind-none t b e (h .0)
+    by none e = tests-no λ h. ⊎-elim (λ d. d .1 (h .0)) (λ d. kind-current t b WindowTarget h (d .1)) (no-kind t b e)
     by (some k) e =
         let o = kind-then t b k e in
         record { right = λ q. (o .0, o .1 ∙ eqb-true (kindNumber k) 66 q); wrong = λ q h. eqb-false (kindNumber k) 66 q (sym (o .1) ∙ h .1) }

@@ -8,7 +8,7 @@ use native.Mathlib.Omega.{arith}
 use lib.ListN.{getElem?}
 use lib.Dec.{eqb, lit≤}
 use borrow.Author.Tests.{eqb-true}
-use Rattle.format.specs.Bytes.{pick, firstOf, find, Answer, refused, given, andThen, orRefused, unless}
+use Rattle.format.specs.Bytes.{pick, firstOf, find, Answer, refused, given, andThen, orRefused, unless, unlessFound}
 
 -- a test cannot fail and pass
 pub never : {A : Type 0} → false ≡ true → A
@@ -83,6 +83,10 @@ module _ {A : Type 0} where
       split : (b : Bool) → eqb f 0 ≡ b → pick b a (refused f p) ≡ given x → (f ≡ 0) × (a ≡ given x)
       split true q e = (eqb-true f 0 q, e)
       split false q e = (cc, cc)
+
+  pub found-given : {B : Type 0} (n : ℕ) (place : A → ℕ) (o : Option A) (a : Answer B) {x : B} → unlessFound n place o a ≡ given x → (o ≡ none) × (a ≡ given x)
+  found-given n place none a e = (refl, e)
+  found-given n place (some y) a e = absurd (let z : _≡_ {A = ℕ} 0 1 = cc in omega arith)
 
 -- ---- the numbers of refusals
 

@@ -13,14 +13,14 @@ use borrow.Author.Tests.{eqb-true, leb-true, ltb-true, not-false}
 use Rattle.format.specs.Bytes.{pick, all, Bytes, at, value, part}
 use Rattle.format.specs.Layout.{Item, fix, wide, asIs, arities, isFixed, width, fieldsWith, fields, fixedOk, refsGood}
 use Rattle.format.specs.Table.{Table, revision}
-use Rattle.format.specs.Form.{Form, processor, cache, memory, acpi, pci, rintc, domain, matrix, side, bridge, window, xor, size, typeOf, layout, registers, ways, ranges}
-use Rattle.format.specs.Row.{Row, processors, caches, memories, initiators, rintcs, domains, matrices, sides, bridges, windows, xors, home, rowType, column, matches, rowOf, formIn}
+use Rattle.format.specs.Form.{Form, processor, cache, memory, acpi, pci, rintc, oldRintc, domain, matrix, side, bridge, window, xor, size, typeOf, layout, registers, ways, ranges}
+use Rattle.format.specs.Row.{Row, processors, caches, memories, initiators, oldRintcs, rintcs, domains, matrices, sides, bridges, windows, xors, home, rowType, column, matches, rowOf, formIn, isRetired}
 use Rattle.format.specs.Node.{Node, bytes, nodeAt, Entry, atPlace, atOrdinal, placeOf, ordinalOf}
 use Rattle.format.specs.Read.{sizeIn, sound, recordFault}
 use Rattle.laws.specs.Rename.{rename}
 use Rattle.laws.specs.Demand3.{rowFor}
 use Rattle.laws.proofs.Bytes.{value-lt, bytes-take, bytes-drop}
-use Rattle.laws.proofs.Finds.{none-first}
+use Rattle.laws.proofs.Finds.{never, none-first}
 use Rattle.laws.proofs.Lays.{both-true, Fit, fit-length, SaneItem, Sane, fields-fit, fields-rename, lay-rename, fit-rename}
 use Rattle.laws.proofs.Nodes.{width-layout, bytes-node}
 use Rattle.laws.proofs.Offsets.{fields-at}
@@ -61,33 +61,34 @@ module _ (bs : List ℕ) (h : Bytes bs) where
   unfolding layout
   code-at n = rw (fields-at asIs (layout (window n)) bs 0)
 
-  row-form : (r : Row) → column r bs ≡ true → Formed r (formIn r bs)
+  row-form : (r : Row) → column r bs ≡ true → isRetired (some r) ≡ false → Formed r (formIn r bs)
   unfolding formIn column ranges
-  row-form processors e x =
+  row-form processors e u x =
       let p = both-true (leb (length bs) 252) _ (both-true (leb 20 (length bs)) _ e .1) in
       (refl, omega (arith, leb-true (length bs) 252 (p .0)))
-  row-form caches e x = (refl, tt)
-  row-form memories e x = (refl, tt)
-  row-form initiators e x = split (eqb (at bs 3) 0)
+  row-form caches e u x = (refl, tt)
+  row-form memories e u x = (refl, tt)
+  row-form initiators e u x = split (eqb (at bs 3) 0)
     where
       split : (x : Bool) → (rowFor (pick x acpi pci) ≡ initiators) × Within (pick x acpi pci) (fields (layout (pick x acpi pci)) bs)
       split true = (refl, tt)
       split false = (refl, tt)
-  row-form rintcs e x = (refl, tt)
-  row-form domains e x = (refl, tt)
-  row-form matrices e x =
+  row-form oldRintcs e u x = never (sym u)
+  row-form rintcs e u x = (refl, tt)
+  row-form domains e u x = (refl, tt)
+  row-form matrices e u x =
       let i = value (part bs 12 4) in
       let t = value (part bs 16 4) in
       let p = both-true (leb i 255) (leb t 255) (both-true (leb 32 (length bs)) _ e .1) in
       (refl, (leb-true i 255 (p .0), leb-true t 255 (p .1)))
-  row-form sides e x = (refl, omega (arith, part-below bs 30 2 h))
-  row-form bridges e x = let v = value (part bs 8 4) in (refl, (rw (version-at (registers v)) (part-below bs 8 4 h), rw (version-at (registers v))))
-  row-form windows e x =
+  row-form sides e u x = (refl, omega (arith, part-below bs 30 2 h))
+  row-form bridges e u x = let v = value (part bs 8 4) in (refl, (rw (version-at (registers v)) (part-below bs 8 4 h), rw (version-at (registers v))))
+  row-form windows e u x =
       let c = value (part bs 24 1) in
       let vs = fields (layout (window (ways c))) bs in
       let p = both-true (ltb 0 (ways (at vs 2))) _ x in
       (refl, (rw (code-at (ways c)) (part-below bs 24 1 h), rw (code-at (ways c)), rw (← code-at (ways c)) (ltb-true 0 (ways (at vs 2)) (p .0))))
-  row-form xors e x = (refl, omega (arith, part-below bs 7 1 h))
+  row-form xors e u x = (refl, omega (arith, part-below bs 7 1 h))
 
 -- ---- its layout
 
@@ -106,6 +107,7 @@ sane-layout cache = search arith
 sane-layout memory = search arith
 sane-layout acpi = search arith
 sane-layout pci = search arith
+sane-layout oldRintc = search arith
 sane-layout rintc = search arith
 sane-layout domain = search arith
 sane-layout (matrix i t) = search (arith, sane-replicate, sane-append)
@@ -128,6 +130,7 @@ size-found cache bs e = fixed-at (fix 1 1 ∷ []) 1 (size cache) _ bs e
 size-found memory bs e = fixed-at (fix 1 1 ∷ []) 1 (size memory) _ bs e
 size-found acpi bs e = fixed-at (fix 1 5 ∷ []) 1 (size acpi) _ bs e
 size-found pci bs e = fixed-at (fix 1 5 ∷ []) 1 (size pci) _ bs e
+size-found oldRintc bs e = fixed-at (fix 1 7 ∷ []) 1 (size oldRintc) _ bs e
 size-found rintc bs e = fixed-at (fix 1 7 ∷ []) 1 (size rintc) _ bs e
 size-found domain bs e = fixed-at (fix 2 0 ∷ fix 2 0 ∷ []) 4 (size domain) _ bs e
 size-found (matrix i t) bs e = fixed-at (fix 2 1 ∷ fix 2 0 ∷ []) 4 (size (matrix i t)) _ bs e
@@ -145,12 +148,12 @@ pub record Found (t : Table) (es : List Entry) (n : Node) (bs : List ℕ) (ty : 
   pub type : typeOf (n .form) ≡ ty
   pub long : size (n .form) ≡ length bs
 
--- a record of a row that matches, with no fault, behind records with the entries es
+-- a record of a row that matches and is not retired, with no fault, behind records with the entries es
 pub found : (t : Table) (b : ℕ) (es : List Entry) (bs : List ℕ) (rev ty : ℕ) (r : Row) → Rising b es → length es < 256 ^ 4 → Bytes bs
-    → rowOf t rev ty bs ≡ some r → sizeIn t bs ≡ length bs → recordFault (atPlace es) (some r) bs ≡ 0
+    → rowOf t rev ty bs ≡ some r → isRetired (some r) ≡ false → sizeIn t bs ≡ length bs → recordFault (atPlace es) (some r) bs ≡ 0
     → Found t es (nodeAt (ordinalOf es) (formIn r bs) bs) bs ty
 unfolding recordFault sound nodeAt bytes
-found t b es bs rev ty r rising few h e n z =
+found t b es bs rev ty r rising few h e fresh n z =
     let f = formIn r bs in
     let is = layout f in
     let vs = fields is bs in
@@ -159,7 +162,7 @@ found t b es bs rev ty r rising few h e n z =
     let good = not-false (refsGood (atPlace es) is vs) c in
     let (fixed, ruled) = both-true (fixedOk is bs) (all (ranges f vs)) s in
     let (type, col) = row-tests rev ty bs r (row-then rev ty bs t r e) in
-    let (row, within) = row-form bs h r col ruled in
+    let (row, within) = row-form bs h r col fresh ruled in
     let own : tableFor f ≡ t = ap home row ∙ row-home rev ty bs t r e in
     let long : size f ≡ length bs = sym (size-found f bs fixed) ∙ (rw (← own) at n) in
     let wide : width is ≡ size f = width-layout f in

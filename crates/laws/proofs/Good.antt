@@ -2,22 +2,22 @@
 use mathlib.Core.Path.{_≡_, refl, _∙_}
 use Prim.Native.Nat.{ℕ, zero, suc, _+_, _-_, _≤_, _<_}
 use mathlib.Core.List.{List, [], _∷_, _++_, append-assoc, append-nil}
-use mathlib.Core.Bool.{true}
-use mathlib.Core.Option.{some}
+use mathlib.Core.Bool.{true, false}
+use mathlib.Core.Option.{none, some}
 use native.Mathlib.Omega.{arith}
 use native.Mathlib.Nat.{add-zero}
 use lib.ListN.{length, take, drop, length-append}
 use lib.Seq.{take-at, drop-at, drop-drop}
 use borrow.Author.Tests.{le-leb}
-use Rattle.format.specs.Bytes.{pick, all, Answer, given, at}
+use Rattle.format.specs.Bytes.{pick, all, find, Answer, given, at}
 use Rattle.format.specs.Layout.{arities, lay, fields, fixedOk, refsGood}
 use Rattle.format.specs.Table.{Table, revision, front, limit, least}
-use Rattle.format.specs.Form.{size, typeOf, layout, ranges}
-use Rattle.format.specs.Row.{Row, processors, caches, memories, initiators, rintcs, domains, matrices, sides, bridges, windows, xors, formIn, knows, known, rowOf}
+use Rattle.format.specs.Form.{Form, processor, cache, memory, acpi, pci, rintc, oldRintc, domain, matrix, side, bridge, window, xor, size, typeOf, layout, ranges}
+use Rattle.format.specs.Row.{Row, processors, caches, memories, initiators, oldRintcs, rintcs, domains, matrices, sides, bridges, windows, xors, formIn, isRetired, knows, known, rowOf}
 use Rattle.format.specs.Node.{Node, bytes, nodeAt, Entry, entry, sizes, starts, atPlace, atOrdinal, placeOf, ordinalOf}
 use Rattle.format.specs.Build.{records}
 use Rattle.format.specs.Read.{sizeIn, typeIn, framed, Frames, badFrame, framedAt, frames, sound, recordFault, Seen, entryOf, push, walk, shown, fieldsOf}
-use Rattle.format.specs.Out.{every, nodesFrom}
+use Rattle.format.specs.Out.{every, nodesFrom, old}
 use Rattle.laws.specs.Rename.{rename}
 use Rattle.laws.specs.Demand3.{rowFor}
 use Rattle.laws.proofs.Lays.{Fit, fit-length, fields-lay, fixed-lay, lay-rename, fields-rename, fit-rename}
@@ -78,6 +78,7 @@ knows-every processors = refl
 knows-every caches = refl
 knows-every memories = refl
 knows-every initiators = refl
+knows-every oldRintcs = refl
 knows-every rintcs = refl
 knows-every domains = refl
 knows-every matrices = refl
@@ -85,6 +86,22 @@ knows-every sides = refl
 knows-every bridges = refl
 knows-every windows = refl
 knows-every xors = refl
+
+-- a form that is built is of no retired row
+pub row-fresh : (f : Form) (vs : List ℕ) → Within f vs → isRetired (some (rowFor f)) ≡ false
+row-fresh (processor n) vs w = refl
+row-fresh cache vs w = refl
+row-fresh memory vs w = refl
+row-fresh acpi vs w = refl
+row-fresh pci vs w = refl
+row-fresh oldRintc vs w = absurd w
+row-fresh rintc vs w = refl
+row-fresh domain vs w = refl
+row-fresh (matrix i t) vs w = refl
+row-fresh (side n) vs w = refl
+row-fresh (bridge n) vs w = refl
+row-fresh (window n) vs w = refl
+row-fresh (xor n) vs w = refl
 
 -- ---- one record of a good node
 
@@ -211,3 +228,12 @@ pub walk-good : (t : Table) (ns : List Node) → Good t ns → front t + sizes n
     → walk t (revision t) every [] (frames t 0 (front t) (records t ns)) ≡ given (seenAll t ns [])
 unfolding frames walk
 walk-good t ns g l = (rw append-nil at (walk-all t ns [] g l)) ∙ push-all t ns []
+
+-- no good node's record is retired
+fresh-all : (t : Table) (ns : List Node) (ss : List Seen) → Good t ns → find (λ s. isRetired (s .row)) (seenAll t ns ss) ≡ find (λ s. isRetired (s .row)) ss
+fresh-all t [] ss g = refl
+fresh-all t (n ∷ ns) ss g = fresh-all t ns (seenOf (front t + sizes ns) (starts t ns) n ∷ ss) (g .1) ∙ rw (row-fresh (n .form) (n .values) (g .0 .within))
+
+pub none-old : (t : Table) (ns : List Node) → Good t ns → old (seenAll t ns []) ≡ none
+unfolding old
+none-old t ns g = fresh-all t ns [] g

@@ -10,7 +10,7 @@ use borrow.Author.Tests.{leb-true, ltb-true, ltb-false, leb-false, not-false, le
 use Rattle.format.specs.Bytes.{both, all, find, at, pick}
 use Rattle.format.specs.Layout.{fld, to, arities, refsGood, Item, fix}
 use Rattle.format.specs.Table.{Table, pptt, srat, hmat, cedt, front, limit}
-use Rattle.format.specs.Form.{Form, processor, cache, memory, acpi, pci, rintc, domain, matrix, side, bridge, window, xor, typeOf, size, middle, layout, registers, ways, ranges}
+use Rattle.format.specs.Form.{Form, processor, cache, memory, acpi, pci, rintc, oldRintc, domain, matrix, side, bridge, window, xor, typeOf, size, middle, layout, registers, ways, ranges}
 use Rattle.format.specs.Node.{Node, node, Entry, sizes, starts, isOrdinal, atOrdinal}
 use Rattle.format.specs.Kind.{Kind, Processor, Resource, Cache, Memory, Acpi, Pci, Rintc, Domain, Matrix, Initiator, Target, Cell, Side, Handle, Bridge, Window, WindowTarget, Xor, Map, kindNumber, isKind, body}
 use Rattle.format.specs.Recipe.{Newest, aList, aMatrix, other, newestAs, newest, joined, setting, unset, step, added, fault, lacking}
@@ -21,7 +21,7 @@ use Rattle.laws.proofs.Shapes.{size-below, plain-fld, plain-matrix, Wit
 use Rattle.laws.proofs.Fits.{fix-fit, zero-fit, fld-fit, wider, fit-append, good-append, replicate-snoc, plain-good, fit-same, set-front, set-behind}
 use Rattle.laws.proofs.Good.{GoodNode, Good}
 use mathlib.Core.Logic.{_⊎_, inl, inr}
-use mathlib.Core.Option.{Option, some}
+use mathlib.Core.Option.{Option, none, some}
 use Rattle.laws.proofs.Changes.{arities-same}
 
 -- ---- no test of the list was true
@@ -65,6 +65,7 @@ view-as cache us ns = seesOther
 view-as memory us ns = seesOther
 view-as acpi us ns = seesOther
 view-as pci us ns = seesOther
+view-as oldRintc us ns = seesOther
 view-as rintc us ns = seesOther
 view-as domain us ns = seesOther
 view-as (matrix i t) us ns = seesMatrix
@@ -111,7 +112,7 @@ module _ (es : List Entry) (vs : List ℕ) where
   new-rintc : Fit (body Rintc) vs → all (ranges rintc vs) ≡ true → GoodNode srat es (node rintc vs)
   unfolding body layout refsGood
   new-rintc f r =
-      record { own = refl; within = tt; fit = (fix-fit (omega arith), (fix-fit (omega arith), (fix-fit (omega arith), (f .0, (wider (omega arith) (f .1 .0), f .1 .1))))); ruled = r; refs = refl }
+      record { own = refl; within = tt; fit = (fix-fit (omega arith), (fix-fit (omega arith), (fix-fit (omega arith), (f .0, (f .1 .0, (wider (omega arith) (f .1 .1 .0), f .1 .1 .1)))))); ruled = r; refs = refl }
 
   new-domain : Fit (body Domain) vs → GoodNode hmat es (node domain vs)
   unfolding body layout ranges refsGood
@@ -435,6 +436,11 @@ number-back Window = refl
 number-back WindowTarget = refl
 number-back Xor = refl
 number-back Map = refl
+
+-- no kind has a number that is retired
+pub none-retired : (k : Kind) → kindNumber k ≡ 35 → ⊥
+unfolding numbered
+none-retired k e = let i : none ≡ some k = rw e at (number-back k) in let z : _≡_ {A = ℕ} 0 1 = cc in omega arith
 
 pub kind-number : (k j : Kind) → kindNumber k ≡ kindNumber j → k ≡ j
 kind-number k j e = let i : some k ≡ some j = sym (number-back k) ∙ (ap numbered e ∙ number-back j) in cc

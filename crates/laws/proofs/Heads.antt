@@ -19,7 +19,7 @@ use Rattle.format.specs.Out.{every, nodesFrom, outOf, meaningOf}
 use Rattle.laws.proofs.Bytes.{value-le, sum-append}
 use Rattle.laws.proofs.Checks.{check-sum}
 use Rattle.laws.proofs.Nodes.{length-bytes}
-use Rattle.laws.proofs.Good.{Good, walk-good, nodes-all}
+use Rattle.laws.proofs.Good.{Good, walk-good, nodes-all, none-old}
 
 -- the checksum stands once among the bytes
 pub sum-header : (h : Head) (n len c : ℕ) (rs : List ℕ) → sum (header h n len c ++ rs) ≡ c + sum (header h n len 0 ++ rs)
@@ -167,6 +167,7 @@ read-built t is ns h26 g l =
       walked-is h h26 k rs x c m refl refl every,
       walk-good t ns g l,
       nodes-all t ns [] g l,
+      none-old t ns g,
       revision-is h k x c rs,
       eq-eqb (revision t) (revision t) refl,
       identity-is h k x c rs h26,

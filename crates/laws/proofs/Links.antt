@@ -10,7 +10,7 @@ use borrow.Author.Tests.{eq-eqb, ne-eqb, eqb-true, le-leb}
 use Rattle.format.specs.Bytes.{pick}
 use Rattle.format.specs.Layout.{Item, fix, fld, two, to, orNone, arity, arities, number, isGood, refsGood}
 use Rattle.format.specs.Table.{Table, pptt, srat, hmat, cedt, front}
-use Rattle.format.specs.Form.{Form, processor, cache, memory, acpi, pci, rintc, domain, matrix, side, bridge, window, xor, size}
+use Rattle.format.specs.Form.{Form, processor, cache, memory, acpi, pci, rintc, oldRintc, domain, matrix, side, bridge, window, xor, size}
 use Rattle.format.specs.Node.{Node, Entry, sizes, starts, atPlace, isOrdinal, atOrdinal, placeOf, ordinalOf}
 use Rattle.laws.specs.Rename.{renamed, rename}
 use Rattle.laws.proofs.Lays.{both-true, rest-length, item-renamed}
@@ -152,6 +152,7 @@ size-pos cache = omega arith
 size-pos memory = omega arith
 size-pos acpi = omega arith
 size-pos pci = omega arith
+size-pos oldRintc = omega arith
 size-pos rintc = omega arith
 size-pos domain = omega arith
 size-pos (matrix i t) = omega arith

@@ -9,9 +9,9 @@ use native.Mathlib.Omega.{arith}
 use lib.ListN.{length, getElem?, length-map}
 use lib.Dec.{eqb}
 use borrow.Author.Tests.{eqb-true}
-use Rattle.format.specs.Bytes.{pick, find, at, refused, given, andThen, orRefused}
+use Rattle.format.specs.Bytes.{pick, both, find, at, refused, given, andThen, orRefused}
 use Rattle.format.specs.Table.{Table, pptt, srat, hmat, cedt, revision}
-use Rattle.format.specs.Row.{Row, processors, caches, memories, initiators, rintcs, domains, matrices, sides, bridges, windows, xors, rows, home, rowType, column, matches, rowOf, knows, known}
+use Rattle.format.specs.Row.{Row, processors, caches, memories, initiators, oldRintcs, rintcs, domains, matrices, sides, bridges, windows, xors, rows, home, rowType, column, matches, rowOf, knows, known}
 use Rattle.format.specs.Node.{Entry, atPlace}
 use Rattle.format.specs.Read.{headFault, judgeHead, typeIn, Frames, ended, badFrame, framedAt, recordFault, Seen, seenAs, entryOf, walk, walked, accept, Reading, fieldsOf, chosen, readingOf, read}
 use Rattle.laws.specs.Demand3.{More, limited, ifKnown, dimmed, Fits, Exact}
@@ -20,37 +20,44 @@ use Rattle.laws.proofs.Finds.{All, found-test, found-in, found-closer, 
 
 -- ---- which row
 
--- rows of one table are told apart by their type
-by-type : (r : Row) → find (λ q. eqb (rowType r) (rowType q)) (rows (home r)) ≡ some r
-by-type processors = refl
-by-type caches = refl
-by-type memories = refl
-by-type initiators = refl
-by-type rintcs = refl
-by-type domains = refl
-by-type matrices = refl
-by-type sides = refl
-by-type bridges = refl
-by-type windows = refl
-by-type xors = refl
+-- a RINTC with its domain is none without
+short-not : (bs : List ℕ) → column rintcs bs ≡ true → column oldRintcs bs ≡ false
+unfolding column
+short-not bs e = rw (eqb-true (length bs) 20 e)
+
+-- rows of one table are told apart by their type, and those of one type by their Length column
+by-type : (bs : List ℕ) (r : Row) → column r bs ≡ true → find (λ q. both (eqb (rowType r) (rowType q)) (column q bs)) (rows (home r)) ≡ some r
+by-type bs processors e = rw e
+by-type bs caches e = rw e
+by-type bs memories e = rw e
+by-type bs initiators e = rw e
+by-type bs oldRintcs e = rw e
+by-type bs domains e = rw e
+by-type bs matrices e = rw e
+by-type bs sides e = rw e
+by-type bs bridges e = rw e
+by-type bs windows e = rw e
+by-type bs xors e = rw e
+by-type bs rintcs e = rw (short-not bs e, e)
 
 all-home : (t : Table) → All (λ r. home r ≡ t) (rows t)
 all-home pptt = (refl, (refl, tt))
-all-home srat = (refl, (refl, (refl, tt)))
+all-home srat = (refl, (refl, (refl, (refl, tt))))
 all-home hmat = (refl, (refl, (refl, tt)))
 all-home cedt = (refl, (refl, (refl, tt)))
 
 module _ (rev ty : ℕ) (bs : List ℕ) where
-  type-test : (r : Row) → matches rev ty bs r ≡ true → eqb ty (rowType r) ≡ true
+  row-test : (r : Row) → matches rev ty bs r ≡ true → both (eqb ty (rowType r)) (column r bs) ≡ true
   unfolding matches
-  type-test r e = both-true (eqb ty (rowType r)) (column r bs) (both-true (eqb rev (revision (home r))) _ e .1) .0
+  row-test r e = both-true (eqb rev (revision (home r))) _ e .1
 
   -- a row that matches is the row
   pub row-when : (r : Row) → matches rev ty bs r ≡ true → rowOf (home r) rev ty bs ≡ some r
   unfolding rowOf
   row-when r e =
-      let z : rowType r ≡ ty = sym (eqb-true ty (rowType r) (type-test r e)) in
-      found-closer (λ q. eqb ty (rowType q)) (matches rev ty bs) type-test (rows (home r)) r (rw z at (by-type r)) e
+      let p = both-true (eqb ty (rowType r)) (column r bs) (row-test r e) in
+      let z : rowType r ≡ ty = sym (eqb-true ty (rowType r) (p .0)) in
+      found-closer (λ q. both (eqb ty (rowType q)) (column q bs)) (matches rev ty bs) row-test (rows (home r)) r (rw z at (by-type bs r (p .1))) e
 
   pub row-then : (t : Table) (r : Row) → rowOf t rev ty bs ≡ some r → matches rev ty bs r ≡ true
   unfolding rowOf

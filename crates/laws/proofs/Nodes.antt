@@ -9,7 +9,7 @@ use lib.ListN.{length, replicate}
 use lib.Seq.{take-all}
 use Rattle.format.specs.Bytes.{all, Bytes}
 use Rattle.format.specs.Layout.{Item, fld, to, wide, width, asIs, layWith, fields, fixedOk}
-use Rattle.format.specs.Form.{Form, processor, cache, memory, acpi, pci, rintc, domain, matrix, side, bridge, window, xor, size, layout, ranges}
+use Rattle.format.specs.Form.{Form, processor, cache, memory, acpi, pci, rintc, oldRintc, domain, matrix, side, bridge, window, xor, size, layout, ranges}
 use Rattle.format.specs.Node.{Node, node, bytes, nodeAt}
 use Rattle.format.specs.Read.{sound}
 use Rattle.laws.proofs.Lays.{Fit, both-true, length-lay, fields-lay, lay-fields}
@@ -31,6 +31,7 @@ width-layout cache = refl
 width-layout memory = refl
 width-layout acpi = refl
 width-layout pci = refl
+width-layout oldRintc = refl
 width-layout rintc = refl
 width-layout domain = refl
 width-layout (matrix i t) = rw (width-append (replicate (i + t) (fld 4)) (replicate (i * t) (fld 2)), width-replicate (i + t) (fld 4), width-replicate (i * t) (fld 2)) (omega arith)

@@ -14,27 +14,19 @@ use Rattle.format.specs.Bytes.{pick, firstOf, Answer, refused, given, andThen, 
 use Rattle.format.specs.Layout.{width}
 use Rattle.format.specs.Table.{Table, pptt, srat, hmat, cedt, tables, code, Head, headOf}
 use Rattle.format.specs.Node.{Node}
-use Rattle.format.specs.Kind.{Kind, kindOf, body}
+use Rattle.format.specs.Kind.{Kind, WindowTarget, kindOf, noKind, body}
 use Rattle.format.specs.Recipe.{Calls, done, badKind, cutOff, called, cutAs, skip, cut, newest, added, fault, lacking, Meaning, means, run, tableOf, headed, meaning}
 use Rattle.format.specs.Build.{lengthOf, fitting, build}
 use Rattle.laws.specs.Words.{FirstOf, NoneOf}
-use Rattle.laws.specs.Demand1.{Belongs, joins, maker, Lacks, Ready, headFaults, recordFaults, fieldsAt, endOf, Where, faults, Headed, OfKind, Reaches, start, next, Comes, Says, AtHead, BadKind, AtRecord, Incomplete, NoRoom, Earned, Exactly, One}
+use Rattle.laws.specs.Demand1.{Belongs, joins, maker, Lacks, Ready, headFaults, recordFaults, fieldsAt, endOf, Where, faults, Headed, OfKind, Reaches, start, next, Comes, Says, AtHead, BadKind, RetiredKind, NoKind, AtRecord, Incomplete, NoRoom, Earned, Exactly, One}
 use Rattle.laws.proofs.Finds.{found-test}
 use Rattle.laws.proofs.Calls.{cut-skip}
 use Rattle.laws.proofs.Settings.{table-back}
 use Rattle.laws.proofs.Grows.{passed}
 use Rattle.laws.proofs.Words.{found-none, first-one, first-none, Numbers, first-in}
-use Rattle.laws.proofs.Faults.{kind-then, kind-none, kind-is, Follows, follows-next, since-maker, decided, faultless, faulty, fault-where, fault-place}
+use Rattle.laws.proofs.Faults.{kind-then, no-kind, bad-none, retired-none, kind-is, Follows, follows-next, since-maker, decided, faultless, faulty, fault-where, fault-place}
 
 -- ---- cutting at a place
-
--- a byte of no kind of the table
-bad-none : (t : Table) (b : ℕ) → (Belongs t b → ⊥) → kindOf t b ≡ none
-bad-none t b h = by (kindOf t b) refl
-  where
-    by : (o : Option Kind) → kindOf t b ≡ o → o ≡ none
-    by none e = refl
-    by (some k) e = absurd (h (kind-then t b k e .0))
 
 module _ (t : Table) (r : List ℕ) (p : ℕ) where
   -- what is cut from p on
@@ -45,13 +37,13 @@ module _ (t : Table) (r : List ℕ) (p : ℕ) where
   unfolding rest cut
   rest-end l = rw (drop-of-length-le r l)
 
-  rest-here : (o : Option Kind) → kindOf t (at r p) ≡ o → p < length r → rest ≡ cutAs o (drop (suc p) r) p (cut t 0 (suc p + skip o) (drop (suc p + skip o) r))
+  rest-here : (o : Option Kind) → kindOf t (at r p) ≡ o → p < length r → rest ≡ cutAs o (noKind t (at r p)) (drop (suc p) r) p (cut t 0 (suc p + skip o) (drop (suc p + skip o) r))
   unfolding rest cut
   rest-here o e l = rw (drop-cons r p 0 l, e, cut-skip t (skip o) (suc p) (drop (suc p) r), drop-drop (skip o) (suc p) r)
 
-  rest-bad : p < length r → (Belongs t (at r p) → ⊥) → rest ≡ badKind p
+  rest-bad : p < length r → kindOf t (at r p) ≡ none → rest ≡ badKind (noKind t (at r p)) p
   unfolding cutAs
-  rest-bad l h = rest-here none (bad-none t (at r p) h) l
+  rest-bad l e = rest-here none e l
 
   module _ (k : Kind) (o : OfKind t (at r p) k) where
     rest-cut : p < length r → length r < endOf p k → rest ≡ cutOff p k
@@ -111,7 +103,7 @@ module _ (t : Table) (r : List ℕ) (hd : Headed t r) where
 
 -- what a recipe is refused for behind its head
 abbrev Faulted : List ℕ → ℕ → ℕ → Type 0
-Faulted r n p = ((n ≡ 2) × BadKind r p) ⊎ (AtRecord n r p ⊎ ((n ≡ 11) × Incomplete r p))
+Faulted r n p = NoKind n r p ⊎ (AtRecord n r p ⊎ ((n ≡ 11) × Incomplete r p))
 
 -- what comes of a recipe with the head h
 abbrev Outcome : Head → List ℕ → Answer Meaning → Type 0
@@ -150,9 +142,9 @@ module _ (h : Head) (r : List ℕ) (hd : Headed (h .table) r) where
   not-ready ns p n = ⊎-elim (λ d. absurd (n (d .1))) (λ d. d .0) (decided ns (h .table) (at r p))
 
   module _ (q w p : ℕ) (ns : List Node) (x : Reaches (h .table) r q w ns p) (y : Ready (h .table) r ns p) where
-    run-bad : p < length r → (Belongs (h .table) (at r p) → ⊥) → run h w ns (rest (h .table) r p) ≡ refused 2 p
+    run-bad : p < length r → kindOf (h .table) (at r p) ≡ none → run h w ns (rest (h .table) r p) ≡ refused (noKind (h .table) (at r p)) p
     unfolding run
-    run-bad l b = rw (rest-bad (h .table) r p l b, rw (bad-none (h .table) (at r p) b) at (ready-none ns p y))
+    run-bad l e = rw (rest-bad (h .table) r p l e, rw e at (ready-none ns p y))
 
     module _ (k : Kind) (o : OfKind (h .table) (at r p) k) where
       l : p < length r
@@ -213,7 +205,7 @@ module _ (h : Head) (r : List ℕ) (hd : Headed (h .table) r) where
           let e : p ≡ length r = omega (arith, reach-within (h .table) r hd x) in
           let n = past-none (h .table) r p l in
           let free : lacking (newest ns) none ≡ 0 = rw n at (ready-none ns p y) in
-          rw (rest-end (h .table) r p l, free) (refl, (q, w, rw e at x), λ i. kind-none (h .table) (at r p) n (y i .0))
+          rw (rest-end (h .table) r p l, free) (refl, (q, w, rw e at x), λ i. (let k = kind-is (h .table) (at r p) WindowTarget (y i) in let z : _≡_ {A = ℕ} 0 1 = cc in omega arith))
 
       module _ (l : p < length r) where
         here : Comes (h .table) r q w ns p
@@ -264,8 +256,8 @@ module _ (h : Head) (r : List ℕ) (hd : Headed (h .table) r) where
     where
       kind : Ready (h .table) r ns p → p < length r → From j → (o : Option Kind) → kindOf (h .table) (at r p) ≡ o → Outcome h r (run h w ns (rest (h .table) r p))
       kind y i ih none e =
-          let b = kind-none (h .table) (at r p) e in
-          rw (run-bad q w p ns x y i b) (inl (refl, (h .table, q, w, ns, here q w p ns x y i, b)))
+          let c = here q w p ns x y i in
+          rw (run-bad q w p ns x y i e) (inl (⊎-elim (λ d. inl (d .0, (h .table, q, w, ns, c, d .1))) (λ d. inr (d .0, (h .table, q, w, ns, c, d .1))) (no-kind (h .table) (at r p) e)))
       kind y i ih (some k) e =
           let o = kind-then (h .table) (at r p) k e in
           at-kind q w p ns x y i k o λ n.
@@ -355,9 +347,14 @@ module _ (r : List ℕ) where
   refuses : (n p : ℕ) → Refused n p → meaning r ≡ refused n p
   unfolding meaning
   refuses n p (inl a) = rw (headed-not r n p a)
-  refuses n p (inr (inl (z, (t, q, w, ns, c, b)))) =
+  refuses n p (inr (inl (inl (z, (t, q, w, ns, c, b))))) =
       let h = headOf t (part r 2 26) in
-      meaning-run t (c .head) ∙ (reach-run h r (c .head) (c .reached) ∙ (run-bad h r (c .head) q w p ns (c .reached) (c .ready) (c .here) b ∙ rw z))
+      let (e, k) = bad-none t (at r p) b in
+      meaning-run t (c .head) ∙ (reach-run h r (c .head) (c .reached) ∙ (run-bad h r (c .head) q w p ns (c .reached) (c .ready) (c .here) e ∙ rw (k, z)))
+  refuses n p (inr (inl (inr (z, (t, q, w, ns, c, b))))) =
+      let h = headOf t (part r 2 26) in
+      let (e, k) = retired-none t (at r p) b in
+      meaning-run t (c .head) ∙ (reach-run h r (c .head) (c .reached) ∙ (run-bad h r (c .head) q w p ns (c .reached) (c .ready) (c .here) e ∙ rw (k, z)))
   refuses n place (inr (inr (inl (t, q, w, ns, p, k, c, o, d, u)))) =
       let h = headOf t (part r 2 26) in
       meaning-run t (c .head) ∙ (reach-run h r (c .head) (c .reached) ∙ run-faulty h r (c .head) q w p ns (c .reached) (c .ready) k o n place d u)
@@ -421,9 +418,13 @@ module _ (r : List ℕ) (room : ℕ) where
   record-number : (n p : ℕ) → AtRecord n r p → Recorded n
   record-number n place (t, q, w, ns, p, k, c, o, d, u) = first-in Recorded (faults t r q ns p k) n d (omega arith)
 
-  earned-number : (n p : ℕ) → Earned r room (refused n p) → (1 ≤ n) × (n ≤ 11)
-  earned-number n p (inl a) = head-number (λ m. (1 ≤ m) × (m ≤ 11)) n p (omega arith) a
-  earned-number n p (inr (inl b)) = omega (arith, b .0)
+  kind-number : (P : ℕ → Type 0) (n p : ℕ) → P 2 → P 12 → NoKind n r p → P n
+  kind-number P n p a b (inl d) = rw (d .0) a
+  kind-number P n p a b (inr d) = rw (d .0) b
+
+  earned-number : (n p : ℕ) → Earned r room (refused n p) → (1 ≤ n) × (n ≤ 12)
+  earned-number n p (inl a) = head-number (λ m. (1 ≤ m) × (m ≤ 12)) n p (omega arith) a
+  earned-number n p (inr (inl b)) = kind-number (λ m. (1 ≤ m) × (m ≤ 12)) n p (omega arith) (omega arith) b
   earned-number n p (inr (inr (inl c))) = omega (arith, record-number n p c)
   earned-number n p (inr (inr (inr (inl d)))) = omega (arith, d .0)
   earned-number n p (inr (inr (inr (inr d)))) = omega (arith, d .0)
@@ -438,7 +439,7 @@ module _ (r : List ℕ) (room : ℕ) where
     where
       by : Earned r room (refused n p) → AtHead n r p ⊎ AtRecord n r p
       by (inl a) = inl a
-      by (inr (inl b)) = absurd (omega (arith, b .0))
+      by (inr (inl b)) = absurd (kind-number (λ m. Recorded m → ⊥) n p (λ h. omega arith) (λ h. omega arith) b l)
       by (inr (inr (inl c))) = inr c
       by (inr (inr (inr (inl d)))) = absurd (omega (arith, d .0))
       by (inr (inr (inr (inr d)))) = absurd (l .2 (d .0))
@@ -448,28 +449,37 @@ module _ (r : List ℕ) (room : ℕ) where
 
   no-head : (p : ℕ) → Earned r room (refused 1 p) → AtHead 1 r p
   no-head p (inl a) = a
-  no-head p (inr (inl b)) = absurd (omega (arith, b .0))
+  no-head p (inr (inl b)) = absurd (kind-number (λ m. m ≡ 1 → ⊥) 1 p (λ h. omega arith) (λ h. omega arith) b refl)
   no-head p (inr (inr (inl c))) = absurd (omega (arith, record-number 1 p c))
   no-head p (inr (inr (inr (inl d)))) = absurd (omega (arith, d .0))
   no-head p (inr (inr (inr (inr d)))) = absurd (omega (arith, d .0))
 
   bad-kind : (p : ℕ) → Earned r room (refused 2 p) → BadKind r p
   bad-kind p (inl a) = absurd (head-number (λ m. m ≡ 2 → ⊥) 2 p (omega arith) a refl)
-  bad-kind p (inr (inl b)) = b .1
+  bad-kind p (inr (inl (inl b))) = b .1
+  bad-kind p (inr (inl (inr b))) = absurd (omega (arith, b .0))
   bad-kind p (inr (inr (inl c))) = absurd (omega (arith, record-number 2 p c))
   bad-kind p (inr (inr (inr (inl d)))) = absurd (omega (arith, d .0))
   bad-kind p (inr (inr (inr (inr d)))) = absurd (omega (arith, d .0))
 
+  retired : (p : ℕ) → Earned r room (refused 12 p) → RetiredKind r p
+  retired p (inl a) = absurd (head-number (λ m. m ≡ 12 → ⊥) 12 p (omega arith) a refl)
+  retired p (inr (inl (inl b))) = absurd (omega (arith, b .0))
+  retired p (inr (inl (inr b))) = b .1
+  retired p (inr (inr (inl c))) = absurd (omega (arith, record-number 12 p c))
+  retired p (inr (inr (inr (inl d)))) = absurd (omega (arith, d .0))
+  retired p (inr (inr (inr (inr d)))) = absurd (omega (arith, d .0))
+
   incomplete : (p : ℕ) → Earned r room (refused 11 p) → Incomplete r p
   incomplete p (inl a) = absurd (head-number (λ m. m ≡ 11 → ⊥) 11 p (omega arith) a refl)
-  incomplete p (inr (inl b)) = absurd (omega (arith, b .0))
+  incomplete p (inr (inl b)) = absurd (kind-number (λ m. m ≡ 11 → ⊥) 11 p (λ h. omega arith) (λ h. omega arith) b refl)
   incomplete p (inr (inr (inl c))) = absurd (omega (arith, record-number 11 p c))
   incomplete p (inr (inr (inr (inl d)))) = d .1
   incomplete p (inr (inr (inr (inr d)))) = absurd (omega (arith, d .0))
 
   no-room : (p : ℕ) → Earned r room (refused 9 p) → NoRoom r room p
   no-room p (inl a) = absurd (head-number (λ m. m ≡ 9 → ⊥) 9 p (omega arith) a refl)
-  no-room p (inr (inl b)) = absurd (omega (arith, b .0))
+  no-room p (inr (inl b)) = absurd (kind-number (λ m. m ≡ 9 → ⊥) 9 p (λ h. omega arith) (λ h. omega arith) b refl)
   no-room p (inr (inr (inl c))) = absurd (record-number 9 p c .2 refl)
   no-room p (inr (inr (inr (inl d)))) = absurd (omega (arith, d .0))
   no-room p (inr (inr (inr (inr d)))) = d .1
@@ -478,7 +488,8 @@ module _ (r : List ℕ) (room : ℕ) where
   exactly =
       record {
         noHead = λ p. (λ e. no-head p (when (refused 1 p) .0 e), λ a. only (refused 1 p) (inl a));
-        badKind = λ p. (λ e. bad-kind p (when (refused 2 p) .0 e), λ b. only (refused 2 p) (inr (inl (refl, b))));
+        badKind = λ p. (λ e. bad-kind p (when (refused 2 p) .0 e), λ b. only (refused 2 p) (inr (inl (inl (refl, b)))));
+        retired = λ p. (λ e. retired p (when (refused 12 p) .0 e), λ b. only (refused 12 p) (inr (inl (inr (refl, b)))));
         cut = λ p. of-record 3 p (omega arith);
         misplaced = λ p. not-head 4 p (omega arith) (omega arith);
         badField = λ p. of-record 5 p (omega arith);

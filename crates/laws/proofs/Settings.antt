@@ -14,7 +14,7 @@ use borrow.Author.Tests.{eqb-true, lt-ltb, le-ltb}
 use Rattle.format.specs.Bytes.{pick, at, part, given}
 use Rattle.format.specs.Layout.{Item, fld, refsGood}
 use Rattle.format.specs.Table.{Table, pptt, srat, hmat, cedt, revision, code, front, limit, headOf}
-use Rattle.format.specs.Form.{Form, processor, cache, memory, acpi, pci, rintc, domain, matrix, side, bridge, window, xor, size, layout, ranges}
+use Rattle.format.specs.Form.{Form, processor, cache, memory, acpi, pci, rintc, oldRintc, domain, matrix, side, bridge, window, xor, size, layout, ranges}
 use Rattle.format.specs.Node.{Node, node, sizes, starts}
 use Rattle.format.specs.Kind.{Matrix, Initiator, Target, Cell, body}
 use Rattle.format.specs.Recipe.{cut, setting, unset, step, lacking, means, run, tableOf, headed, meaning}
@@ -157,6 +157,7 @@ calls-lead v is cache vs ns free g l = lead-cache v is vs ns free g l
 calls-lead v is memory vs ns free g l = lead-memory v is vs ns free g l
 calls-lead v is acpi vs ns free g l = lead-acpi v is vs ns free g l
 calls-lead v is pci vs ns free g l = lead-pci v is vs ns free (fit-length (layout pci) vs (g .fit)) g l
+calls-lead v is oldRintc vs ns free g l = absurd (g .within)
 calls-lead v is rintc vs ns free g l = lead-rintc v is vs ns free g l
 calls-lead v is domain vs ns free g l = lead-domain v is vs ns free g l
 calls-lead v is (matrix i t) vs ns free g l = lead-matrix v is i t vs ns free g l

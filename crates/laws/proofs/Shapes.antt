@@ -10,7 +10,7 @@ use borrow.Author.Tests.{eq-eqb, le-leb, leb-true}
 use Rattle.format.specs.Bytes.{pick, both, at, le, value, part}
 use Rattle.format.specs.Layout.{Item, fix, fld, two, to, orNone, arities, layWith}
 use Rattle.format.specs.Table.{Table, revision, least}
-use Rattle.format.specs.Form.{Form, processor, cache, memory, acpi, pci, rintc, domain, matrix, side, bridge, window, xor, size, typeOf, layout, registers, ways, ranges}
+use Rattle.format.specs.Form.{Form, processor, cache, memory, acpi, pci, rintc, oldRintc, domain, matrix, side, bridge, window, xor, size, typeOf, layout, registers, ways, ranges}
 use Rattle.format.specs.Row.{home, rowType, column, matches, formIn}
 use Rattle.format.specs.Read.{typeIn, sizeIn}
 use Rattle.laws.specs.Rename.{rename}
@@ -32,13 +32,14 @@ third vs = rw drop-drop (sym (getD-drop 2 vs 0 0))
 pub fourth : (vs : List ℕ) → at vs 3 ≡ at (drop 1 (drop 1 (drop 1 vs))) 0
 fourth vs = rw (drop-drop, drop-drop) (sym (getD-drop 3 vs 0 0))
 
--- the counts of a form are within their limits, and those that a field settles are what it says
+-- the counts of a form are within their limits, and those that a field settles are what it says; a retired form is not built
 abbrev pub Within : Form → List ℕ → Type 0
 Within (processor n) vs = n ≤ 58
 Within cache vs = Unit
 Within memory vs = Unit
 Within acpi vs = Unit
 Within pci vs = Unit
+Within oldRintc vs = ⊥
 Within rintc vs = Unit
 Within domain vs = Unit
 Within (matrix i t) vs = (i ≤ 255) × (t ≤ 255)
@@ -57,6 +58,7 @@ least-size cache = omega arith
 least-size memory = omega arith
 least-size acpi = omega arith
 least-size pci = omega arith
+least-size oldRintc = omega arith
 least-size rintc = omega arith
 least-size domain = omega arith
 least-size (matrix i t) = omega arith
@@ -87,6 +89,7 @@ size-below cache vs w = omega arith
 size-below memory vs w = omega arith
 size-below acpi vs w = omega arith
 size-below pci vs w = omega arith
+size-below oldRintc vs w = omega arith
 size-below rintc vs w = omega arith
 size-below domain vs w = omega arith
 size-below (matrix i t) vs w = omega (arith, square i t (w .0) (w .1))
@@ -101,6 +104,7 @@ type-for cache = refl
 type-for memory = refl
 type-for acpi = refl
 type-for pci = refl
+type-for oldRintc = refl
 type-for rintc = refl
 type-for domain = refl
 type-for (matrix i t) = refl
@@ -117,6 +121,7 @@ module _ (g : ℕ → ℕ) where
   type-in memory vs rest = refl
   type-in acpi vs rest = refl
   type-in pci vs rest = refl
+  type-in oldRintc vs rest = refl
   type-in rintc vs rest = refl
   type-in domain vs rest = refl
   type-in (matrix i t) vs rest = refl
@@ -132,6 +137,7 @@ module _ (g : ℕ → ℕ) where
   size-in memory vs rest w = refl
   size-in acpi vs rest w = refl
   size-in pci vs rest w = refl
+  size-in oldRintc vs rest w = refl
   size-in rintc vs rest w = refl
   size-in domain vs rest w = refl
   size-in (matrix i t) vs rest w = value-le 4 (size (matrix i t)) (size-below (matrix i t) vs w)
@@ -180,6 +186,7 @@ module _ (g : ℕ → ℕ) where
   column-in memory vs w = rw (length-record g memory vs)
   column-in acpi vs w = rw (length-record g acpi vs)
   column-in pci vs w = rw (length-record g pci vs)
+  column-in oldRintc vs w = rw (length-record g oldRintc vs)
   column-in rintc vs w = rw (length-record g rintc vs)
   column-in domain vs w = rw (length-record g domain vs)
   column-in (matrix i t) vs w =
@@ -202,6 +209,7 @@ module _ (g : ℕ → ℕ) where
   form-in memory vs w = refl
   form-in acpi vs w = rw (handle-acpi vs)
   form-in pci vs w = rw (handle-pci vs)
+  form-in oldRintc vs w = refl
   form-in rintc vs w = refl
   form-in domain vs w = refl
   form-in (matrix i t) vs w = rw (count-i i t vs (w .0), count-t i t vs (w .1))
@@ -269,6 +277,7 @@ module _ (g : ℕ → ℕ) where
   ranges-rename memory vs l = plain-ranges memory vs tt l
   ranges-rename acpi vs l = plain-ranges acpi vs tt l
   ranges-rename pci vs l = plain-ranges pci vs tt l
+  ranges-rename oldRintc vs l = plain-ranges oldRintc vs tt l
   ranges-rename rintc vs l = plain-ranges rintc vs tt l
   ranges-rename domain vs l = refl
   ranges-rename (matrix i t) vs l = plain-ranges (matrix i t) vs (plain-matrix i t) l
@@ -285,6 +294,7 @@ module _ (g : ℕ → ℕ) where
   within-rename memory vs l w = w
   within-rename acpi vs l w = w
   within-rename pci vs l w = w
+  within-rename oldRintc vs l w = w
   within-rename rintc vs l w = w
   within-rename domain vs l w = w
   within-rename (matrix i t) vs l w = w

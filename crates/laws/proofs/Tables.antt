@@ -22,7 +22,7 @@ use Rattle.laws.specs.Demand3.{answerOn, Shows, ShowsNormal}
 use Rattle.laws.proofs.Bytes.{value-le}
 use Rattle.laws.proofs.Nodes.{length-bytes}
 use Rattle.laws.proofs.Links.{starts-rise}
-use Rattle.laws.proofs.Good.{GoodNode, Good, seenOf, seenAll, walk-good, form-rec, fields-seen}
+use Rattle.laws.proofs.Good.{GoodNode, Good, seenOf, seenAll, walk-good, form-rec, fields-seen, row-fresh}
 use Rattle.laws.proofs.Heads.{judged, walked-is, length-header, length-records}
 use Rattle.laws.proofs.Builds.{Means, meaning-good}
 use Rattle.laws.proofs.Trips.{normal-same}
@@ -235,6 +235,7 @@ module _ (r : List ℕ) (m : Meaning) (b : Bytes r) (says : Says r m) where
         behind = rw (B .behind, take-at y rs (front t - 36) tl);
         nodes = node-bytes;
         ends = l;
+        current = λ later before n q. row-fresh (n .form) (n .values) (good-at t later before n (rw q at (good .good)) .within);
       }
 
 -- of every recipe that builds

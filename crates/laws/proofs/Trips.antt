@@ -3,25 +3,27 @@ use mathlib.Core.Path.{_≡_, refl, sym, ap, _∙_}
 use Prim.Native.Nat.{ℕ, _+_, _%_, _≤_, _<_}
 use mathlib.Core.List.{List, [], _∷_, _++_, append-assoc}
 use mathlib.Core.Bool.{Bool, true, false, not}
-use mathlib.Core.Option.{some}
+use mathlib.Core.Option.{none, some}
 use native.Mathlib.Omega.{arith}
 use native.Mathlib.Nat.{add-zero}
 use lib.ListN.{length, take, drop, length-drop, take-append-drop}
 use lib.Seq.{length-take-le, drop-drop, drop-cons, take-take, getD-take}
 use lib.Dec.{eqb, leb, ltb}
 use borrow.Author.Tests.{eqb-true, leb-true, not-false}
-use Rattle.format.specs.Bytes.{pick, both, all, find, Bytes, at, le, value, part, sum, same, refused, given, andThen, orRefused, unless}
+use Rattle.format.specs.Bytes.{pick, both, all, find, Bytes, at, le, value, part, sum, same, refused, given, andThen, orRefused, unless, unlessFound}
 use Rattle.format.specs.Layout.{width, lay, fieldsWith, fixedOk}
 use Rattle.format.specs.Table.{Table, pptt, srat, hmat, cedt, tables, sign, revision, tail, told, front, limit, headOf}
+use Rattle.format.specs.Row.{isRetired}
 use Rattle.format.specs.Node.{sizes, starts}
 use Rattle.format.specs.Recipe.{Meaning, means, meaning}
 use Rattle.format.specs.Normal.{recipeOf, normal}
 use Rattle.format.specs.Build.{records, header, checkOf, summed, tableFrom, lengthOf}
 use Rattle.format.specs.Read.{signed, lengthIn, own, headFault, judgeHead, Seen, walked}
-use Rattle.format.specs.Out.{every, nodesFrom, headIn, outOf, meaningOf}
+use Rattle.format.specs.Out.{every, nodesFrom, old, headIn, outOf, meaningOf}
 use Rattle.laws.proofs.Bytes.{le-value, bytes-take, bytes-drop, bytes-at, bytes-part, part-take, length-part}
 use Rattle.laws.proofs.Checks.{derived}
-use Rattle.laws.proofs.Finds.{found-test, none-first, then-given, or-given, unless-given}
+use Rattle.laws.proofs.Finds.{found-test, none-first, then-given, or-given, unless-given, found-given}
+use Rattle.laws.proofs.Words.{found-none}
 use Rattle.laws.proofs.Lays.{both-true, lay-fields}
 use Rattle.laws.proofs.Heads.{sum-header, length-records}
 use Rattle.laws.proofs.Builds.{meaning-good}
@@ -164,31 +166,32 @@ pub record Rebuilt (b : List ℕ) (m : Meaning) : Type 0 where
   pub length : lengthOf m ≡ lengthIn b
   pub means : meaning (recipeOf m) ≡ given m
 
-out-given : (t : Table) (b : List ℕ) (ss : List Seen) (m : Meaning) → outOf t b ss ≡ given m → (at b 8 ≡ revision t) × (m .head ≡ headIn t b) × (nodesFrom [] [] ss ≡ given (m .nodes))
+out-given : (t : Table) (b : List ℕ) (ss : List Seen) (m : Meaning) → outOf t b ss ≡ given m → (at b 8 ≡ revision t) × (m .head ≡ headIn t b) × (nodesFrom [] [] ss ≡ given (m .nodes)) × (old ss ≡ none)
 unfolding outOf
 out-given t b ss m e = by (eqb (at b 8) (revision t)) refl e
   where
-    by : (x : Bool) → eqb (at b 8) (revision t) ≡ x → pick x (andThen (nodesFrom [] [] ss) (λ ns. given (means (headIn t b) ns))) (refused 30 8) ≡ given m
-        → (at b 8 ≡ revision t) × (m .head ≡ headIn t b) × (nodesFrom [] [] ss ≡ given (m .nodes))
+    by : (x : Bool) → eqb (at b 8) (revision t) ≡ x → pick x (andThen (nodesFrom [] [] ss) (λ ns. unlessFound 32 (λ s. s .place) (old ss) (given (means (headIn t b) ns)))) (refused 30 8) ≡ given m
+        → (at b 8 ≡ revision t) × (m .head ≡ headIn t b) × (nodesFrom [] [] ss ≡ given (m .nodes)) × (old ss ≡ none)
     by false v e = absurd (let z : _≡_ {A = ℕ} 0 1 = cc in omega arith)
     by true v e =
-        let (ns, f, g) = then-given (nodesFrom [] [] ss) (λ ns. given (means (headIn t b) ns)) e in
+        let (ns, f, g) = then-given (nodesFrom [] [] ss) (λ ns. unlessFound 32 (λ s. s .place) (old ss) (given (means (headIn t b) ns))) e in
+        let (z, d) = found-given 32 (λ (s : Seen). s .place) (old ss) (given (means (headIn t b) ns)) g in
         let y : means (headIn t b) ns ≡ m = cc in
-        (eqb-true (at b 8) (revision t) v, rw (← y), rw (← y) f)
+        (eqb-true (at b 8) (revision t) v, rw (← y), rw (← y) f, z)
 
 own-head : (t : Table) (b : List ℕ) → at b 8 ≡ revision t → headIn t b ≡ headOf t (part b 10 26)
 own-head t b v = rw v
 
 pub second-trip : (b : List ℕ) (m : Meaning) → Bytes b → meaningOf b ≡ given m → Rebuilt b m
-unfolding meaningOf walked tableFrom records sizes starts
+unfolding meaningOf walked tableFrom records sizes starts old
 second-trip b m h e =
     let (t, j, f) = then-given (judgeHead b) (λ t. andThen (walked t b every) (outOf t b)) e in
     let (ss, w, o) = then-given (walked t b every) (outOf t b) f in
-    let (v, hd, ns) = out-given t b ss m o in
+    let (v, hd, ns, fresh) = out-given t b ss m o in
     let H = judged b t j in
     let bs = drop (front t) (own b) in
     let n : front t + length bs ≡ lengthIn b = rest-length t b h H 0 in
-    let R = walk-found t (at b 8) ss [] bs (m .nodes) tt (bytes-drop (front t) (own b) (bytes-take (lengthIn b) b h)) (omega (arith, H .short)) (rw add-zero w) ns in
+    let R = walk-found t (at b 8) ss [] bs (m .nodes) tt (bytes-drop (front t) (own b) (bytes-take (lengthIn b) b h)) (omega (arith, H .short)) (rw add-zero w) ns (found-none (λ s. isRetired (s .row)) ss fresh) in
     let rs : records t (m .nodes) ≡ bs = R .1 in
     let z : front t + sizes (m .nodes) ≡ lengthIn b = rw (← length-records t (m .nodes), rs) n in
     let i : headIn t b ≡ headOf t (part b 10 26) = own-head t b v in

@@ -10,13 +10,13 @@ use Rattle.format.specs.Layout.{width, layWith, fieldsWith, fixedOk, refsGood}
 use Rattle.format.specs.Table.{pptt, srat}
 use Rattle.format.specs.Form.{layout, cacheAttributes, ranges}
 use Rattle.format.specs.Row.{processors, caches, column, matches, rowOf, formIn}
-use Rattle.format.specs.Kind.{kindOf, body}
+use Rattle.format.specs.Kind.{kindOf, noKind, body}
 use Rattle.format.specs.Node.{bytes, nodeAt, sizes, starts, atPlace, isOrdinal, atOrdinal, placeOf, ordinalOf}
 use Rattle.format.specs.Recipe.{cutAs, cut, joined, step, fault, lacking, faultAt, run, headed, meaning}
 use Rattle.format.specs.Build.{records, header, summed, tableFrom, build, table, written, built}
 use Rattle.format.specs.Normal.{each, calls, callsOf, recipeOf}
 use Rattle.format.specs.Read.{headFault, judgeHead, framed, frames, sound, recordFault, walk, walked, accept, shown, fieldsOf, reading, read}
-use Rattle.format.specs.Out.{every, nodesFrom, outOf, meaningOf, readOut, recipe, outWritten}
+use Rattle.format.specs.Out.{every, nodesFrom, old, outOf, meaningOf, readOut, recipe, outWritten}
 use Rattle.laws.specs.Cases.{head, withResources}
 use Rattle.laws.specs.Versions.{Refusal, firstAlone, oneProcessor, Excluded}
 use Rattle.laws.proofs.Cases.{checked}
@@ -37,7 +37,7 @@ record Computed : Type 0 where
   c3-read : read (table (withResources 1)) every 0 ≡ given (reading 2 1 36 28 (some caches) (replicate 8 0))
 
 computed : Computed
-unfolding le value part over sum same width layWith fieldsWith fixedOk refsGood layout cacheAttributes ranges column matches rowOf formIn kindOf body bytes nodeAt sizes starts atPlace isOrdinal atOrdinal placeOf ordinalOf cutAs cut joined step fault faultAt lacking run headed meaning records header summed tableFrom build table written built each calls callsOf recipeOf headFault judgeHead framed frames sound recordFault walk walked accept shown fieldsOf read nodesFrom outOf meaningOf readOut recipe outWritten
+unfolding le value part over sum same width layWith fieldsWith fixedOk refsGood layout cacheAttributes ranges column matches rowOf formIn kindOf noKind body bytes nodeAt sizes starts atPlace isOrdinal atOrdinal placeOf ordinalOf cutAs cut joined step fault faultAt lacking run headed meaning records header summed tableFrom build table written built each calls callsOf recipeOf headFault judgeHead framed frames sound recordFault walk walked accept shown fieldsOf read nodesFrom old outOf meaningOf readOut recipe outWritten
 computed =
     record {
       c1-room = refl;

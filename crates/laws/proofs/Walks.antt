@@ -11,7 +11,7 @@ use lib.Dec.{leb}
 use borrow.Author.Tests.{leb-true}
 use Rattle.format.specs.Bytes.{Bytes, at, part, refused, given, orRefused}
 use Rattle.format.specs.Table.{Table, pptt, srat, hmat, cedt, front, limit, frame, least}
-use Rattle.format.specs.Row.{known, rowOf, formIn}
+use Rattle.format.specs.Row.{known, rowOf, formIn, isRetired}
 use Rattle.format.specs.Node.{Node, nodeAt, Entry, sizes, starts, atPlace, ordinalOf}
 use Rattle.format.specs.Build.{records}
 use Rattle.format.specs.Read.{own, judgeHead, sizeIn, framed, framedAt, frames, recordFault, Seen, entryOf, walk, walked, accept}
@@ -115,16 +115,16 @@ accept-parts b mask {ss} e =
 
 -- ---- the nodes read out
 
--- the nodes read out of the records bs, behind the records of good nodes ns
+-- the nodes read out of the records bs, none of which is retired, behind the records of good nodes ns
 pub walk-found : (t : Table) (rev : ℕ) (ss : List Seen) (ns : List Node) (bs : List ℕ) (ns′ : List Node) → Good t ns → Bytes bs → front t + sizes ns + length bs ≤ limit
-    → walk t rev every (starts t ns) (frames t 0 (front t + sizes ns) bs) ≡ given ss → nodesFrom (starts t ns) ns ss ≡ given ns′
+    → walk t rev every (starts t ns) (frames t 0 (front t + sizes ns) bs) ≡ given ss → nodesFrom (starts t ns) ns ss ≡ given ns′ → All (λ s. isRetired (s .row) ≡ false) ss
     → Good t ns′ × (records t ns′ ≡ records t ns ++ bs)
 unfolding nodesFrom sizes starts records
-walk-found t rev [] ns bs ns′ g h l w e =
+walk-found t rev [] ns bs ns′ g h l w e a =
     let b : bs ≡ [] = stop t rev every (front t + sizes ns) (starts t ns) bs w in
     let n : ns ≡ ns′ = cc in
     rw (← n) (g, rw (b, append-nil))
-walk-found t rev (s ∷ ss) ns bs ns′ g h l w e =
+walk-found t rev (s ∷ ss) ns bs ns′ g h l w e a =
     let p = front t + sizes ns in
     let es = starts t ns in
     let c = s .body in
@@ -135,7 +135,7 @@ walk-found t rev (s ∷ ss) ns bs ns′ g h l w e =
     let m = nodeAt (ordinalOf es) (formIn r c) c in
     let i : Bytes c = rw (← st .body) at (bytes-take n bs h) in
     let o : rowOf t rev (s .type) c ≡ some r = known-row every _ r (sym (st .row) ∙ row) .0 in
-    let F = found t p es c rev (s .type) r (starts-rise t ns) (omega (arith, length-starts t ns, few-nodes ns)) i o (st .size) (rw row at (st .fine)) in
+    let F = found t p es c rev (s .type) r (starts-rise t ns) (omega (arith, length-starts t ns, few-nodes ns)) i o (rw row at (a .0)) (st .size) (rw row at (st .fine)) in
     let z : p + n ≡ front t + sizes (m ∷ ns) = omega (arith, F .long) in
-    let R = walk-found t rev ss (m ∷ ns) (drop n bs) ns′ (F .good, g) (bytes-drop n bs h) (simp length-drop (omega arith)) (cc) (cc) in
+    let R = walk-found t rev ss (m ∷ ns) (drop n bs) ns′ (F .good, g) (bytes-drop n bs h) (simp length-drop (omega arith)) (cc) (cc) (a .1) in
     (R .0, cc (append-assoc (records t ns) c (drop n bs), take-append-drop n bs))

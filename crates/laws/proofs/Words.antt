@@ -12,7 +12,7 @@ use lib.Dec.{eqb, leb, ltb}
 use borrow.Author.Tests.{eqb-true, eqb-false, leb-true, leb-false, ltb-true, ltb-false}
 use Rattle.format.specs.Bytes.{pick, both, all, firstOf, find, at, value, part, same}
 use Rattle.format.specs.Layout.{Item, fix, fld, two, to, orNone, wide, fixedOk, isGood, refsGood}
-use Rattle.format.specs.Form.{Form, processor, cache, memory, acpi, pci, rintc, domain, matrix, side, bridge, window, xor, cacheAttributes, matrixFlags, sideAttributes, ways, ranges}
+use Rattle.format.specs.Form.{Form, processor, cache, memory, acpi, pci, rintc, oldRintc, domain, matrix, side, bridge, window, xor, cacheAttributes, matrixFlags, sideAttributes, ways, ranges}
 use Rattle.format.specs.Field.{firstBad}
 use Rattle.laws.proofs.Finds.{never, All}
 use Rattle.laws.specs.Words.{FirstOf, NoneOf, Every, FirstNot, Among, Attributes, Rules, Fixed, References}
@@ -146,6 +146,7 @@ tests-rules cache vs = (search tested, (search tested, (search tested, (search t
 tests-rules memory vs = search tested
 tests-rules acpi vs = search tested
 tests-rules pci vs = search tested depth 8
+tests-rules oldRintc vs = search tested
 tests-rules rintc vs = search tested
 tests-rules domain vs = tt
 tests-rules (matrix i t) vs = search tested

@@ -10,7 +10,7 @@ use Rattle.format.specs.Bytes.{all, firstOf, find, Answer, refused, given, andT
 use Rattle.format.specs.Layout.{refsGood}
 use Rattle.format.specs.Table.{Table, pptt, srat, hmat, cedt, code, front, limit, Head, headOf}
 use Rattle.format.specs.Node.{Node, sizes, starts, atOrdinal}
-use Rattle.format.specs.Kind.{Kind, body}
+use Rattle.format.specs.Kind.{Kind, Rintc, body}
 use Rattle.format.specs.Recipe.{Calls, done, badKind, cutOff, called, cut, Step, step, added, Meaning, means, meaning}
 
 -- a reference that is not good is 6, for whatever reason
@@ -26,7 +26,7 @@ faultBefore t ns k vs =
 -- every place is that of a kind byte
 unfoldable pub runBefore : Head → List Node → Calls → Answer Meaning
 runBefore h ns done = given (means h ns)
-runBefore h ns (badKind p) = refused 2 p
+runBefore h ns (badKind n p) = refused 2 p
 runBefore h ns (cutOff p k) = refused 3 p
 runBefore h ns (called p k vs rest) = unless (faultBefore (h .table) ns k vs) p (runBefore h (added k vs ns) rest)
 
@@ -51,9 +51,16 @@ pub data Moves {A : Type 0} : Answer A → Answer A → Type 0 where
   field : (p d : ℕ) → 0 < d → Moves (refused 5 p) (refused 5 (p + d))
   kind : (p : ℕ) → Moves (refused 6 p) (refused 10 p)
 
--- the head names no table that came later
+-- none of the records is a RINTC's, of the kind that is retired or of the one that came for it
+abbrev pub NoRintc : Calls → Type 0
+NoRintc done = Unit
+NoRintc (badKind n p) = n ≡ 2
+NoRintc (cutOff p k) = k ≡ Rintc → ⊥
+NoRintc (called p k vs rest) = (k ≡ Rintc → ⊥) × NoRintc rest
+
+-- the head names no table that came later, and in an SRAT's recipe there is no RINTC
 abbrev pub Older : List ℕ → Type 0
-Older r = at r 1 ≡ code cedt → ⊥
+Older r = (at r 1 ≡ code cedt → ⊥) × (at r 1 ≡ code srat → NoRintc (cut srat 0 28 (drop 28 r)))
 
 -- of every such recipe; what is built follows from what it means
 abbrev pub Stays : List ℕ → Type 0

@@ -1,16 +1,17 @@
--- Document 01's cases C1 to C12, as one statement, and cases of orders 1 and 2 of document 02. Identity fields and all fields not named are 0.
+-- Document 01's cases C1 to C12, as one statement, and cases of orders 1, 2 and 4 of document 02. Identity fields and all fields not named are 0.
 use Prim.Native.Nat.{ℕ, _+_, _*_}
 use mathlib.Core.List.{List, [], _∷_, _++_}
-use mathlib.Core.Option.{none}
+use mathlib.Core.Option.{none, some}
 use mathlib.Core.Path.{_≡_}
 use lib.ListN.{length, drop, replicate}
 use Rattle.format.specs.Bytes.{refused, given, at, le, part}
 use Rattle.format.specs.Table.{Table, pptt, srat, hmat, cedt, code, sign}
-use Rattle.format.specs.Kind.{Processor, Resource, Cache, Pci, Matrix, Initiator, Cell, Side, Bridge, Window, WindowTarget, Xor, Map}
+use Rattle.format.specs.Row.{oldRintcs, rintcs}
+use Rattle.format.specs.Kind.{Processor, Resource, Cache, Pci, Rintc, Matrix, Initiator, Cell, Side, Bridge, Window, WindowTarget, Xor, Map}
 use Rattle.format.specs.Build.{build, table}
 use Rattle.format.specs.Normal.{call, each}
 use Rattle.format.specs.Read.{reading, read, readPart}
-use Rattle.format.specs.Out.{every}
+use Rattle.format.specs.Out.{every, readOut}
 
 -- the head's record
 abbrev pub head : Table → List ℕ
@@ -125,3 +126,48 @@ pub record CedtByHand : Type 0 where
   pub settled : read (holding 90 (0 ∷ 0 ∷ 32 ∷ 0 ∷ (replicate 4 0 ++ (1 ∷ (replicate 16 0 ++ (32 ∷ replicate 6 0)))))) every 0 ≡ refused 26 36
   pub reserved : read (holding 90 (0 ∷ 1 ∷ 32 ∷ (replicate 22 0 ++ (32 ∷ replicate 6 0)))) every 0 ≡ refused 26 36
   pub free : read (holding 175 (3 ∷ 1 ∷ 4 ∷ 0 ∷ [])) every 0 ≡ given (reading 1 3 36 4 none [])
+
+-- a RINTC of uid 7, in a domain, with flags and clock domain 9
+abbrev pub withRintc : ℕ → List ℕ
+withRintc flags = head srat ++ call Rintc (3 ∷ 7 ∷ flags ∷ 9 ∷ [])
+
+-- an SRAT of a revision with these records, and its checksum
+abbrev pub sratOf : ℕ → ℕ → List ℕ → List ℕ
+sratOf revision check bs = sign srat ++ (le 4 (48 + length bs) ++ (revision ∷ check ∷ (replicate 26 0 ++ (1 ∷ (replicate 11 0 ++ bs)))))
+
+-- the record of 16 bytes: uid 5, flags 1, clock domain 9; the record of 20 bytes has its domain, 3, before them
+abbrev pub sixteen : List ℕ
+sixteen = 7 ∷ 16 ∷ 0 ∷ 0 ∷ 5 ∷ 0 ∷ 0 ∷ 0 ∷ 1 ∷ 0 ∷ 0 ∷ 0 ∷ 9 ∷ 0 ∷ 0 ∷ 0 ∷ []
+
+abbrev pub twenty : List ℕ
+twenty = 7 ∷ 20 ∷ 0 ∷ 0 ∷ 3 ∷ 0 ∷ 0 ∷ 0 ∷ 5 ∷ 0 ∷ 0 ∷ 0 ∷ 1 ∷ 0 ∷ 0 ∷ 0 ∷ 9 ∷ 0 ∷ 0 ∷ 0 ∷ []
+
+-- the table is not read out, however large the buffer
+abbrev pub NotOut : List ℕ → ℕ → ℕ → Type 0
+NotOut b n p = (room : ℕ) → readOut b room ≡ refused n p
+
+-- order 4: the kind, the row, what is retired of both, and in which order that is said
+pub record RintcByHand : Type 0 where
+  pub built : Builds (withRintc 1) 68 79
+  pub frame : Holds (withRintc 1) 48 4 (7 + 256 * 20)
+  pub domain : Holds (withRintc 1) 52 4 3
+  pub uid : Holds (withRintc 1) 56 4 7
+  pub flags : Holds (withRintc 1) 60 4 1
+  pub clock : Holds (withRintc 1) 64 4 9
+  pub range : Refuses (withRintc 2) 5 37
+  pub cut : Refuses (head srat ++ (36 ∷ [])) 3 28
+  pub retired : Refuses (head srat ++ (35 ∷ replicate 9 0)) 12 28
+  pub first : Refuses (head srat ++ (35 ∷ [])) 12 28  -- before its 3
+  pub behind : Refuses (withRintc 1 ++ (35 ∷ [])) 12 42
+  pub elsewhere : Refuses (head pptt ++ (35 ∷ [])) 2 28
+  pub unknown : Refuses (head srat ++ (37 ∷ [])) 2 28
+  pub short : read (sratOf 3 92 sixteen) every 0 ≡ given (reading 1 7 48 16 (some oldRintcs) (5 ∷ 1 ∷ 9 ∷ []))
+  pub long : read (sratOf 3 81 twenty) every 0 ≡ given (reading 1 7 48 20 (some rintcs) (3 ∷ 5 ∷ 1 ∷ 9 ∷ []))
+  pub dim : read (sratOf 3 81 twenty) 16 0 ≡ given (reading 1 7 48 20 none [])  -- row 4 alone is known
+  pub between : read (sratOf 3 103 (7 ∷ 18 ∷ replicate 16 0)) every 0 ≡ given (reading 1 7 48 18 none [])
+  pub flagged : read (sratOf 3 80 (7 ∷ 20 ∷ 0 ∷ 0 ∷ 3 ∷ 0 ∷ 0 ∷ 0 ∷ 5 ∷ 0 ∷ 0 ∷ 0 ∷ 2 ∷ 0 ∷ 0 ∷ 0 ∷ 9 ∷ 0 ∷ 0 ∷ 0 ∷ [])) every 0 ≡ refused 26 48
+  pub reserved : read (sratOf 3 98 (7 ∷ 20 ∷ 1 ∷ replicate 17 0)) every 0 ≡ refused 26 48
+  pub out : NotOut (sratOf 3 92 sixteen) 32 48
+  pub place : NotOut (sratOf 3 27 (twenty ++ sixteen)) 32 68
+  pub later : NotOut (sratOf 3 79 (sixteen ++ (9 ∷ 2 ∷ []))) 29 64  -- before its 32
+  pub older : NotOut (sratOf 2 93 sixteen) 30 8

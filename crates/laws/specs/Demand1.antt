@@ -18,12 +18,16 @@ use Rattle.laws.specs.Words.{FirstOf, NoneOf, Every, FirstNot, Among, Ru
 
 -- ---- the kinds
 
--- 16 to 18 PPTT, 32 to 35 SRAT, 48 to 54 HMAT, 64 to 68 CEDT
+-- 16 to 18 PPTT, 32 to 36 SRAT, 48 to 54 HMAT, 64 to 68 CEDT
 abbrev pub Belongs : Table → ℕ → Type 0
 Belongs pptt b = (16 ≤ b) × (b ≤ 18)
-Belongs srat b = (32 ≤ b) × (b ≤ 35)
+Belongs srat b = (32 ≤ b) × (b ≤ 36)
 Belongs hmat b = (48 ≤ b) × (b ≤ 54)
 Belongs cedt b = (64 ≤ b) × (b ≤ 68)
+
+-- one of them, 35 of SRAT, is retired
+abbrev pub Retired : Table → ℕ → Type 0
+Retired t b = Belongs t b × (b ≡ 35)
 
 -- the kind bytes, from the first to the last, directly after which a record of the kind stands, for it joins their node; none: it makes one
 abbrev pub joins : Kind → Option (ℕ × ℕ)
@@ -114,7 +118,7 @@ places Cache = 1 ∷ 2 ∷ 6 ∷ 10 ∷ 14 ∷ 15 ∷ 16 ∷ 18 ∷ []
 places Memory = 1 ∷ 5 ∷ 13 ∷ 21 ∷ []
 places Acpi = 1 ∷ 5 ∷ 13 ∷ 17 ∷ []
 places Pci = 1 ∷ 5 ∷ 7 ∷ 8 ∷ 9 ∷ 10 ∷ []
-places Rintc = 1 ∷ 5 ∷ 6 ∷ []
+places Rintc = 1 ∷ 5 ∷ 9 ∷ 10 ∷ []
 places Domain = 1 ∷ 5 ∷ []
 places Matrix = 1 ∷ 2 ∷ 3 ∷ 4 ∷ 12 ∷ 13 ∷ []
 places Initiator = 1 ∷ 2 ∷ []
@@ -240,6 +244,14 @@ AtHead n r place = FirstOf n (headFaults r) × (place ≡ pick (eqb n 5) 1 0)
 abbrev pub BadKind : List ℕ → ℕ → Type 0
 BadKind r p = (t : Table) × (q : ℕ) × (w : ℕ) × (ns : List Node) × Comes t r q w ns p × (Belongs t (at r p) → ⊥)
 
+-- 12 of the record at p
+abbrev pub RetiredKind : List ℕ → ℕ → Type 0
+RetiredKind r p = (t : Table) × (q : ℕ) × (w : ℕ) × (ns : List Node) × Comes t r q w ns p × Retired t (at r p)
+
+-- 2 or 12
+abbrev pub NoKind : ℕ → List ℕ → ℕ → Type 0
+NoKind n r p = ((n ≡ 2) × BadKind r p) ⊎ ((n ≡ 12) × RetiredKind r p)
+
 -- 3 to 8 and 10, of a record at p
 abbrev pub AtRecord : ℕ → List ℕ → ℕ → Type 0
 AtRecord n r place =
@@ -261,6 +273,7 @@ HasRoom r room n = (m : Meaning) × Says r m × (lengthOf m ≤ room) × (n ≡ 
 pub record Exactly (r : List ℕ) (room : ℕ) : Type 0 where
   pub noHead : (p : ℕ) → (build r room ≡ refused 1 p) ↔ AtHead 1 r p
   pub badKind : (p : ℕ) → (build r room ≡ refused 2 p) ↔ BadKind r p
+  pub retired : (p : ℕ) → (build r room ≡ refused 12 p) ↔ RetiredKind r p
   pub cut : (p : ℕ) → (build r room ≡ refused 3 p) ↔ (AtHead 3 r p ⊎ AtRecord 3 r p)
   pub misplaced : (p : ℕ) → (build r room ≡ refused 4 p) ↔ AtRecord 4 r p
   pub badField : (p : ℕ) → (build r room ≡ refused 5 p) ↔ (AtHead 5 r p ⊎ AtRecord 5 r p)
@@ -276,11 +289,11 @@ pub record Exactly (r : List ℕ) (room : ℕ) : Type 0 where
 
 -- what has to hold for an answer
 abbrev pub Earned : List ℕ → ℕ → Answer ℕ → Type 0
-Earned r room (refused n p) = AtHead n r p ⊎ (((n ≡ 2) × BadKind r p) ⊎ (AtRecord n r p ⊎ (((n ≡ 11) × Incomplete r p) ⊎ ((n ≡ 9) × NoRoom r room p))))
+Earned r room (refused n p) = AtHead n r p ⊎ (NoKind n r p ⊎ (AtRecord n r p ⊎ (((n ≡ 11) × Incomplete r p) ⊎ ((n ≡ 9) × NoRoom r room p))))
 Earned r room (given n) = HasRoom r room n
 
 -- it holds for the answer of build, and for no other; a refusal's number is one of the list's
 pub record One (r : List ℕ) (room : ℕ) : Type 0 where
   pub earned : Earned r room (build r room)
   pub only : (a : Answer ℕ) → Earned r room a → build r room ≡ a
-  pub numbers : (n p : ℕ) → build r room ≡ refused n p → (1 ≤ n) × (n ≤ 11)
+  pub numbers : (n p : ℕ) → build r room ≡ refused n p → (1 ≤ n) × (n ≤ 12)

@@ -10,7 +10,7 @@ use Rattle.format.specs.Bytes.{Answer, refused, given, at, part, sum}
 use Rattle.format.specs.Layout.{fields}
 use Rattle.format.specs.Table.{Table, sign, revision, tail, front, limit, least}
 use Rattle.format.specs.Form.{Form, layout}
-use Rattle.format.specs.Row.{Row, formIn, knows}
+use Rattle.format.specs.Row.{Row, oldRintcs, formIn, knows}
 use Rattle.format.specs.Node.{Entry, entry}
 use Rattle.format.specs.Read.{lengthIn, own, typeIn, sizeIn, Seen, accept, Reading, reading, fieldsOf, partOf, read, readPart}
 use Rattle.format.specs.Out.{every, readOut, recipe}
@@ -154,9 +154,17 @@ pub record OneRead (b : List ℕ) (mask k : ℕ) : Type 0 where
 abbrev pub Unmatched : Table → List ℕ → Entry → Type 0
 Unmatched t b e = (r : Row) → Fits t (at b 8) (e .type) (part b (e .offset) (e .length)) r → ⊥
 
+-- the record is of row 4, which is retired
+abbrev pub Outdated : Table → List ℕ → Entry → Type 0
+Outdated t b e = Fits t (at b 8) (e .type) (part b (e .offset) (e .length)) oldRintcs
+
 -- one of the records is so
-abbrev pub AnyUnmatched : Table → List ℕ → List Entry → Type 0
-AnyUnmatched t b es = Among (λ e before. Unmatched t b e) es
+abbrev pub AnyOf : (Entry → Type 0) → List Entry → Type 0
+AnyOf P es = Among (λ e before. P e) es
+
+-- the first that is so is at p
+abbrev pub FirstAt : (Entry → Type 0) → ℕ → List Entry → Type 0
+FirstAt P p es = Among (λ e before. (e .offset ≡ p) × P e × (AnyOf P before → ⊥)) es
 
 -- 30: the revision is not that of the front
 abbrev pub OtherRevision : List ℕ → ℕ → Type 0
@@ -164,13 +172,17 @@ OtherRevision b p = (t : Table) × (es : List Entry) × Accepts t b every es × 
 
 -- 29: the first record that no row matches is at p
 abbrev pub Unknown : List ℕ → ℕ → Type 0
-Unknown b p =
-    (t : Table) × (es : List Entry) × Accepts t b every es × (at b 8 ≡ revision t)
-    × Among (λ e before. (e .offset ≡ p) × Unmatched t b e × (AnyUnmatched t b before → ⊥)) es
+Unknown b p = (t : Table) × (es : List Entry) × Accepts t b every es × (at b 8 ≡ revision t) × FirstAt (Unmatched t b) p es
 
--- a row matches every record
+-- 32: a row matches every record, and the first that is of a retired one is at p
+abbrev pub Retired : List ℕ → ℕ → Type 0
+Retired b p =
+    (t : Table) × (es : List Entry) × Accepts t b every es × (at b 8 ≡ revision t) × (AnyOf (Unmatched t b) es → ⊥) × FirstAt (Outdated t b) p es
+
+-- a row that is not retired matches every record
 abbrev pub Matched : List ℕ → Type 0
-Matched b = (t : Table) × (es : List Entry) × Accepts t b every es × (at b 8 ≡ revision t) × (AnyUnmatched t b es → ⊥)
+Matched b =
+    (t : Table) × (es : List Entry) × Accepts t b every es × (at b 8 ≡ revision t) × (AnyOf (Unmatched t b) es → ⊥) × (AnyOf (Outdated t b) es → ⊥)
 
 -- 31: the recipe is longer than the room, and that is the place
 abbrev pub NoRoom : List ℕ → ℕ → ℕ → Type 0
@@ -191,13 +203,14 @@ pub record ExactlyOut (b : List ℕ) (room : ℕ) : Type 0 where
   pub badRef : (p : ℕ) → (readOut b room ≡ refused 27 p) ↔ AtRecord 27 b every p
   pub otherRevision : (p : ℕ) → (readOut b room ≡ refused 30 p) ↔ OtherRevision b p
   pub unknown : (p : ℕ) → (readOut b room ≡ refused 29 p) ↔ Unknown b p
+  pub retired : (p : ℕ) → (readOut b room ≡ refused 32 p) ↔ Retired b p
   pub noRoom : (p : ℕ) → (readOut b room ≡ refused 31 p) ↔ NoRoom b room p
   pub out : (n : ℕ) → (readOut b room ≡ given n) ↔ Outs b room n
 
 -- what has to hold for an answer
 abbrev pub EarnedOut : List ℕ → ℕ → Answer ℕ → Type 0
 EarnedOut b room (refused n p) =
-    AtHeader n b p ⊎ (AtRecord n b every p ⊎ (((n ≡ 30) × OtherRevision b p) ⊎ (((n ≡ 29) × Unknown b p) ⊎ ((n ≡ 31) × NoRoom b room p))))
+    AtHeader n b p ⊎ (AtRecord n b every p ⊎ (((n ≡ 30) × OtherRevision b p) ⊎ (((n ≡ 29) × Unknown b p) ⊎ (((n ≡ 32) × Retired b p) ⊎ ((n ≡ 31) × NoRoom b room p)))))
 EarnedOut b room (given n) = Outs b room n
 
 -- it holds for the answer of reading out, and for no other

@@ -2,17 +2,21 @@
 use mathlib.Core.Path.{_≡_}
 use Prim.Native.Nat.{ℕ, _+_, _-_, _%_, _≤_, _<_}
 use mathlib.Core.List.{List, _∷_, _++_}
+use mathlib.Core.Bool.{false}
+use mathlib.Core.Option.{some}
 use lib.ListN.{length, take}
 use Rattle.format.specs.Bytes.{refused, given, at, part, over, sum}
 use Rattle.format.specs.Layout.{lay, layWith}
 use Rattle.format.specs.Table.{code, sign, revision, tail, told, front}
 use Rattle.format.specs.Form.{size, layout}
+use Rattle.format.specs.Row.{isRetired}
 use Rattle.format.specs.Node.{Node, sizes, starts, placeOf}
 use Rattle.format.specs.Recipe.{Meaning}
 use Rattle.format.specs.Build.{fitting, build, table, built}
 use Rattle.format.specs.Normal.{normal}
 use Rattle.format.specs.Read.{lengthIn, own}
 use Rattle.format.specs.Out.{readOut, recipe, outWritten}
+use Rattle.laws.specs.Demand3.{rowFor}
 
 -- of a recipe that builds a table of n bytes
 pub record Built (r : List ℕ) (n : ℕ) : Type 0 where
@@ -78,3 +82,5 @@ pub record Lies (r : List ℕ) (m : Meaning) : Type 0 where
   pub nodes : (later before : List Node) (n : Node) → m .nodes ≡ later ++ (n ∷ before)
       → part (table r) (front (m .head .table) + sizes before) (size (n .form)) ≡ layWith (placeOf (starts (m .head .table) before)) (layout (n .form)) (n .values)
   pub ends : length (table r) ≡ front (m .head .table) + sizes (m .nodes)
+  -- none is of a retired row: a record of one is read and shown, but no recipe means it
+  pub current : (later before : List Node) (n : Node) → m .nodes ≡ later ++ (n ∷ before) → isRetired (some (rowFor (n .form))) ≡ false

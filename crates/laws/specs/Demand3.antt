@@ -8,8 +8,8 @@ use mathlib.Core.Option.{Option, none, some}
 use lib.ListN.{length, take, getElem?}
 use Rattle.format.specs.Bytes.{at, part, refused, given}
 use Rattle.format.specs.Table.{Table, sign, front}
-use Rattle.format.specs.Form.{Form, processor, cache, memory, acpi, pci, rintc, domain, matrix, side, bridge, window, xor, typeOf, size, layout}
-use Rattle.format.specs.Row.{Row, processors, caches, memories, initiators, rintcs, domains, matrices, sides, bridges, windows, xors, home, matches, knows, known}
+use Rattle.format.specs.Form.{Form, processor, cache, memory, acpi, pci, rintc, oldRintc, domain, matrix, side, bridge, window, xor, typeOf, size, layout}
+use Rattle.format.specs.Row.{Row, processors, caches, memories, initiators, oldRintcs, rintcs, domains, matrices, sides, bridges, windows, xors, home, matches, knows, known}
 use Rattle.format.specs.Node.{Node, bytes, Entry, sizes, starts, placeOf}
 use Rattle.format.specs.Recipe.{Meaning, meaning}
 use Rattle.format.specs.Build.{table}
@@ -99,6 +99,7 @@ rowFor cache = caches
 rowFor memory = memories
 rowFor acpi = initiators
 rowFor pci = initiators
+rowFor oldRintc = oldRintcs
 rowFor rintc = rintcs
 rowFor domain = domains
 rowFor (matrix i t) = matrices

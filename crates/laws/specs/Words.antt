@@ -7,7 +7,7 @@ use lib.ListN.{drop}
 use lib.Dec.{eqb}
 use Rattle.format.specs.Bytes.{pick, at, value, part, bits}
 use Rattle.format.specs.Layout.{Item, fix, fld, two, to, orNone}
-use Rattle.format.specs.Form.{Form, processor, cache, memory, acpi, pci, rintc, domain, matrix, side, bridge, window, xor}
+use Rattle.format.specs.Form.{Form, processor, cache, memory, acpi, pci, rintc, oldRintc, domain, matrix, side, bridge, window, xor}
 
 -- ---- conditions in the order of a list, each beside its number
 
@@ -62,7 +62,8 @@ Rules cache vs =
 Rules memory vs = Any ∷ Any ∷ Any ∷ (at vs 3 ≤ 7) ∷ []
 Rules acpi vs = Any ∷ Any ∷ Any ∷ (at vs 3 ≤ 3) ∷ []
 Rules pci vs = Any ∷ Any ∷ Any ∷ (at vs 3 ≤ 31) ∷ (at vs 4 ≤ 7) ∷ (at vs 5 ≤ 3) ∷ []
-Rules rintc vs = Any ∷ (at vs 1 ≤ 1) ∷ []
+Rules oldRintc vs = Any ∷ (at vs 1 ≤ 1) ∷ []
+Rules rintc vs = Any ∷ Any ∷ (at vs 2 ≤ 1) ∷ []
 Rules domain vs = []
 Rules (matrix i t) vs =
     -- flags: bits 0..1, 4 and 5, the rest 0

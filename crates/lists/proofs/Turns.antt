@@ -13,26 +13,27 @@ use Rattle.format.specs.Listing.{whether, refusedWords, firstLine, recordLine, 
 use Rattle.laws.proofs.Finds.{then-given}
 use Rattle.read.proofs.Node.{the-type}
 use Rattle.read.specs.declared.Node.{Node}
-use Rattle.read.specs.declared.Node.the-variants.{Processor, Cache, Memory, Initiator, Rintc, Domain, Matrix, Side, Bridge, Window, Xor, Unknown}
+use Rattle.read.specs.declared.Node.the-variants.{Processor, Cache, Memory, Initiator, OldRintc, Domain, Matrix, Side, Bridge, Window, Xor, Rintc, Unknown}
 use Rattle.read.specs.declared.Shown.{Shown}
 use Rattle.read.specs.Answers.{rowIn, shownAs}
 use Rattle.read.specs.Places.{counted, seenAt, firstPlace, seenFrom}
 use Rattle.read.proofs.Listing.{shown-next, all-records}
 
 -- the tags are those of the nodes that are known
-pub known-line : (n : Node) → OneOf (0 ∷ 1 ∷ 2 ∷ 3 ∷ 4 ∷ 5 ∷ 6 ∷ 7 ∷ 8 ∷ 9 ∷ 10 ∷ []) (tagOf the-type n) → whether (rowIn n) ≡ 32 ∷ 107 ∷ 110 ∷ 111 ∷ 119 ∷ 110 ∷ 10 ∷ []
+pub known-line : (n : Node) → OneOf (0 ∷ 1 ∷ 2 ∷ 3 ∷ 4 ∷ 5 ∷ 6 ∷ 7 ∷ 8 ∷ 9 ∷ 10 ∷ 11 ∷ []) (tagOf the-type n) → whether (rowIn n) ≡ 32 ∷ 107 ∷ 110 ∷ 111 ∷ 119 ∷ 110 ∷ 10 ∷ []
 known-line (Processor n) h = refl
 known-line (Cache n) h = refl
 known-line (Memory n) h = refl
 known-line (Initiator n) h = refl
-known-line (Rintc n) h = refl
+known-line (OldRintc n) h = refl
 known-line (Domain n) h = refl
 known-line (Matrix n) h = refl
 known-line (Side n) h = refl
 known-line (Bridge n) h = refl
 known-line (Window n) h = refl
 known-line (Xor n) h = refl
-known-line Unknown h = absurd (miss (0 ∷ 1 ∷ 2 ∷ 3 ∷ 4 ∷ 5 ∷ 6 ∷ 7 ∷ 8 ∷ 9 ∷ 10 ∷ []) 11 tt h)
+known-line (Rintc n) h = refl
+known-line Unknown h = absurd (miss (0 ∷ 1 ∷ 2 ∷ 3 ∷ 4 ∷ 5 ∷ 6 ∷ 7 ∷ 8 ∷ 9 ∷ 10 ∷ 11 ∷ []) 12 tt h)
 
 -- the line of what is seen
 abbrev pub lineOf : Seen → List ℕ

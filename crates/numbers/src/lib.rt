@@ -14,6 +14,7 @@ use pptt::CacheNode;
 use pptt::ProcessorNode;
 use read::Node;
 use srat::MemoryAffinity;
+use srat::OldRintcAffinity;
 use srat::RintcAffinity;
 
 // The row of a record that no known row fits.
@@ -28,13 +29,14 @@ pub fn row_number(node: Node) -> u64
         Node::Cache(_) => 1,
         Node::Memory(_) => 2,
         Node::Initiator(_) => 3,
-        Node::Rintc(_) => 4,
+        Node::OldRintc(_) => 4,
         Node::Domain(_) => 5,
         Node::Matrix(_) => 6,
         Node::Side(_) => 7,
         Node::Bridge(_) => 8,
         Node::Window(_) => 9,
         Node::Xor(_) => 10,
+        Node::Rintc(_) => 11,
         Node::Unknown => UNKNOWN,
     }
 }
@@ -48,13 +50,14 @@ pub fn put_fields(node: Node, answer: &mut [u64], at: usize)
         Node::Cache(n) => n.put_fields(answer, at),
         Node::Memory(n) => n.put_fields(answer, at),
         Node::Initiator(n) => n.put_fields(answer, at),
-        Node::Rintc(n) => n.put_fields(answer, at),
+        Node::OldRintc(n) => n.put_fields(answer, at),
         Node::Domain(n) => n.put_fields(answer, at),
         Node::Matrix(n) => n.put_fields(answer, at),
         Node::Side(n) => n.put_fields(answer, at),
         Node::Bridge(n) => n.put_fields(answer, at),
         Node::Window(n) => n.put_fields(answer, at),
         Node::Xor(n) => n.put_fields(answer, at),
+        Node::Rintc(n) => n.put_fields(answer, at),
         Node::Unknown => {}
     }
 }
@@ -68,13 +71,14 @@ pub fn fields_count(node: Node) -> usize
         Node::Cache(_) => CacheNode::FIELDS,
         Node::Memory(_) => MemoryAffinity::FIELDS,
         Node::Initiator(n) => n.fields_count(),
-        Node::Rintc(_) => RintcAffinity::FIELDS,
+        Node::OldRintc(_) => OldRintcAffinity::FIELDS,
         Node::Domain(_) => MemoryProximityDomain::FIELDS,
         Node::Matrix(_) => SystemLocality::FIELDS,
         Node::Side(_) => MemorySideCache::FIELDS,
         Node::Bridge(_) => CxlHostBridge::FIELDS,
         Node::Window(_) => CxlFixedMemory::FIELDS,
         Node::Xor(_) => XorInterleaveMath::FIELDS,
+        Node::Rintc(_) => RintcAffinity::FIELDS,
         Node::Unknown => 0,
     }
 }

@@ -12,7 +12,7 @@ use Rattle.format.specs.Bytes.{pick, both, firstOf, at, value, part}
 use Rattle.format.specs.Layout.{to, orNone, asIs, fieldsWith, fields, isGood, refsGood}
 use Rattle.format.specs.Table.{Table, pptt}
 use Rattle.format.specs.Form.{processor, cache, acpi, pci, layout, ways}
-use Rattle.format.specs.Row.{Row, processors, caches, memories, initiators, rintcs, domains, matrices, sides, bridges, windows, xors, home, rowOf, formIn, known}
+use Rattle.format.specs.Row.{Row, processors, caches, memories, initiators, oldRintcs, domains, matrices, sides, bridges, windows, xors, rintcs, home, rowOf, formIn, known}
 use Rattle.format.specs.Read.{sound, recordFault}
 use Rattle.laws.proofs.Offsets.{fields-at}
 use Rattle.laws.proofs.Shapes.{Plain, plain-fld, plain-matrix}
@@ -29,13 +29,14 @@ Bare processors = ⊥
 Bare caches = ⊥
 Bare memories = Unit
 Bare initiators = Unit
-Bare rintcs = Unit
+Bare oldRintcs = Unit
 Bare domains = Unit
 Bare matrices = Unit
 Bare sides = Unit
 Bare bridges = Unit
 Bare windows = Unit
 Bare xors = Unit
+Bare rintcs = Unit
 
 plain-handle : (b : Bool) → Plain (layout (pick b acpi pci))
 unfolding layout
@@ -48,13 +49,14 @@ plain-row processors bs b = absurd b
 plain-row caches bs b = absurd b
 plain-row memories bs b = tt
 plain-row initiators bs b = plain-handle (eqb (at bs 3) 0)
-plain-row rintcs bs b = tt
+plain-row oldRintcs bs b = tt
 plain-row domains bs b = tt
 plain-row matrices bs b = plain-matrix (value (part bs 12 4)) (value (part bs 16 4))
 plain-row sides bs b = plain-fld (value (part bs 30 2)) 2
 plain-row bridges bs b = tt
 plain-row windows bs b = plain-fld (ways (value (part bs 24 1))) 4
 plain-row xors bs b = plain-fld (value (part bs 7 1)) 8
+plain-row rintcs bs b = tt
 
 -- a row of another table than a PPTT
 bare-row : (r : Row) → (home r ≡ pptt → ⊥) → Bare r
@@ -62,13 +64,14 @@ bare-row processors z = absurd (z refl)
 bare-row caches z = absurd (z refl)
 bare-row memories z = tt
 bare-row initiators z = tt
-bare-row rintcs z = tt
+bare-row oldRintcs z = tt
 bare-row domains z = tt
 bare-row matrices z = tt
 bare-row sides z = tt
 bare-row bridges z = tt
 bare-row windows z = tt
 bare-row xors z = tt
+bare-row rintcs z = tt
 
 -- a row that is known of a record is of its table
 pub known-of : (t : Table) (rev ty mask : ℕ) (bs : List ℕ) (m o : Option Row) → m ≡ rowOf t rev ty bs → o ≡ known mask m → RowOf t o

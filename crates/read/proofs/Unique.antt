@@ -5,7 +5,7 @@ use mathlib.Core.List.{List}
 use mathlib.Core.Option.{Option, none, some}
 use lib.Dec.{eqb}
 use Rattle.format.specs.Bytes.{pick, Answer, refused, given, at}
-use Rattle.format.specs.Row.{Row, processors, caches, memories, initiators, rintcs, domains, matrices, sides, bridges, windows, xors}
+use Rattle.format.specs.Row.{Row, processors, caches, memories, initiators, oldRintcs, domains, matrices, sides, bridges, windows, xors, rintcs}
 use Rattle.format.specs.Read.{Reading, reading}
 use Rattle.laws.specs.Unique.{Fixes}
 use Rattle.laws.proofs.Sole.{sole, sole-meant}
@@ -40,7 +40,7 @@ nodeOf (some caches) vs =
     node.Cache (record { flags = at vs 0; «next_level» = record { 0 = at vs 1 }; size = at vs 2; «set_count» = at vs 3; associativity = at vs 4; attributes = at vs 5; «line_size» = at vs 6; id = at vs 7 })
 nodeOf (some memories) vs = node.Memory (record { «proximity_domain» = at vs 0; «base_address» = at vs 1; length = at vs 2; flags = at vs 3 })
 nodeOf (some initiators) vs = node.Initiator (record { «proximity_domain» = at vs 1; handle = handleOf vs; flags = pick (eqb (at vs 0) 0) (at vs 4) (at vs 6) })
-nodeOf (some rintcs) vs = node.Rintc (record { «acpi_processor_uid» = at vs 0; flags = at vs 1; «clock_domain» = at vs 2 })
+nodeOf (some oldRintcs) vs = node.OldRintc (record { «acpi_processor_uid» = at vs 0; flags = at vs 1; «clock_domain» = at vs 2 })
 nodeOf (some domains) vs = node.Domain (record { «proximity_domain_initiator» = at vs 0; «proximity_domain_memory» = at vs 1 })
 nodeOf (some matrices) vs =
     node.Matrix (record { flags = at vs 0; «data_type» = at vs 1; «min_transfer_size» = at vs 2; «entry_base_unit» = at vs 5; initiators = at vs 3; targets = at vs 4 })
@@ -49,6 +49,7 @@ nodeOf (some bridges) vs = node.Bridge (record { «host_bridge_uid» = at vs 0; 
 nodeOf (some windows) vs =
     node.Window (record { «base_addr» = at vs 0; size = at vs 1; «interleave_ways» = at vs 2; «interleave_arithmetic» = at vs 3; «interleave_granularity» = at vs 4; «window_restrictions» = at vs 5; «qtg_id» = at vs 6 })
 nodeOf (some xors) vs = node.Xor (record { granularity = at vs 0; xormaps = at vs 1 })
+nodeOf (some rintcs) vs = node.Rintc (record { «proximity_domain» = at vs 0; «acpi_processor_uid» = at vs 1; flags = at vs 2; «clock_domain» = at vs 3 })
 
 initiator-back : (d f : ℕ) (h : Handle) → nodeOf (some initiators) (fieldsIn (node.Initiator (record { «proximity_domain» = d; handle = h; flags = f }))) ≡ node.Initiator (record { «proximity_domain» = d; handle = h; flags = f })
 initiator-back d f (Acpi h u) = refl
@@ -59,13 +60,14 @@ node-back (node.Processor n) = refl
 node-back (node.Cache n) = refl
 node-back (node.Memory n) = refl
 node-back (node.Initiator n) = initiator-back (n .«proximity_domain») (n .flags) (n .handle)
-node-back (node.Rintc n) = refl
+node-back (node.OldRintc n) = refl
 node-back (node.Domain n) = refl
 node-back (node.Matrix n) = refl
 node-back (node.Side n) = refl
 node-back (node.Bridge n) = refl
 node-back (node.Window n) = refl
 node-back (node.Xor n) = refl
+node-back (node.Rintc n) = refl
 node-back node.Unknown = refl
 
 abbrev recordOf : Reading → Shown

@@ -3,11 +3,11 @@ use Prim.Native.Nat.{ℕ}
 use mathlib.Core.List.{List, []}
 use mathlib.Core.Option.{Option, none, some}
 use Rattle.format.specs.Bytes.{Answer, given}
-use Rattle.format.specs.Row.{Row, processors, caches, memories, initiators, rintcs, domains, matrices, sides, bridges, windows, xors}
+use Rattle.format.specs.Row.{Row, processors, caches, memories, initiators, oldRintcs, domains, matrices, sides, bridges, windows, xors, rintcs}
 use Rattle.format.specs.Read.{Reading, reading}
 use Rattle.pptt.specs.Processor.{processorShown}
 use Rattle.pptt.specs.Cache.{cacheShown}
-use Rattle.srat.specs.Srat.{memoryShown, initiatorShown, rintcShown}
+use Rattle.srat.specs.Srat.{memoryShown, initiatorShown, rintcShown, oldRintcShown}
 use Rattle.hmat.specs.Hmat.{domainShown, matrixShown, sideShown}
 use Rattle.cedt.specs.Cedt.{bridgeShown, windowShown, mathsShown}
 use Rattle.frames.specs.Refusals.{refusal}
@@ -27,13 +27,14 @@ rowIn (node.Processor n) = some processors
 rowIn (node.Cache n) = some caches
 rowIn (node.Memory n) = some memories
 rowIn (node.Initiator n) = some initiators
-rowIn (node.Rintc n) = some rintcs
+rowIn (node.OldRintc n) = some oldRintcs
 rowIn (node.Domain n) = some domains
 rowIn (node.Matrix n) = some matrices
 rowIn (node.Side n) = some sides
 rowIn (node.Bridge n) = some bridges
 rowIn (node.Window n) = some windows
 rowIn (node.Xor n) = some xors
+rowIn (node.Rintc n) = some rintcs
 rowIn node.Unknown = none
 
 -- its fields, in the order of the layout
@@ -42,13 +43,14 @@ fieldsIn (node.Processor n) = processorShown n
 fieldsIn (node.Cache n) = cacheShown n
 fieldsIn (node.Memory n) = memoryShown n
 fieldsIn (node.Initiator n) = initiatorShown n
-fieldsIn (node.Rintc n) = rintcShown n
+fieldsIn (node.OldRintc n) = oldRintcShown n
 fieldsIn (node.Domain n) = domainShown n
 fieldsIn (node.Matrix n) = matrixShown n
 fieldsIn (node.Side n) = sideShown n
 fieldsIn (node.Bridge n) = bridgeShown n
 fieldsIn (node.Window n) = windowShown n
 fieldsIn (node.Xor n) = mathsShown n
+fieldsIn (node.Rintc n) = rintcShown n
 fieldsIn node.Unknown = []
 
 -- what is answered of a record, of a table of count records

@@ -36,6 +36,7 @@ use pptt::Resource;
 use rows::Row;
 use srat::GenericInitiator;
 use srat::MemoryAffinity;
+use srat::OldRintcAffinity;
 use srat::RintcAffinity;
 
 // ---- the judgement: c is a table's own bytes
@@ -133,13 +134,14 @@ fn refs_good(c: &[u8], marks: &[u64], shift: u32, own: usize, row: Row, body: &[
         Row::Caches => names_cache_or_none(c, marks, shift, own, CacheNode::next_level_of(body)),
         Row::Memories => true,
         Row::Initiators => true,
-        Row::Rintcs => true,
+        Row::OldRintcs => true,
         Row::Domains => true,
         Row::Matrices => true,
         Row::Sides => true,
         Row::Bridges => true,
         Row::Windows => true,
         Row::Xors => true,
+        Row::Rintcs => true,
         Row::Unknown => true,
     }
 }
@@ -258,13 +260,14 @@ pub enum Node {
     Cache(CacheNode),
     Memory(MemoryAffinity),
     Initiator(GenericInitiator),
-    Rintc(RintcAffinity),
+    OldRintc(OldRintcAffinity),
     Domain(MemoryProximityDomain),
     Matrix(SystemLocality),
     Side(MemorySideCache),
     Bridge(CxlHostBridge),
     Window(CxlFixedMemory),
     Xor(XorInterleaveMath),
+    Rintc(RintcAffinity),
     Unknown,
 }
 
@@ -328,13 +331,14 @@ fn node_in(row: Row, body: &[u8]) -> Node
         Row::Caches => Node::Cache(CacheNode::get(body, 0)),
         Row::Memories => Node::Memory(MemoryAffinity::get(body, 0)),
         Row::Initiators => Node::Initiator(GenericInitiator::get(body, 0)),
-        Row::Rintcs => Node::Rintc(RintcAffinity::get(body, 0)),
+        Row::OldRintcs => Node::OldRintc(OldRintcAffinity::get(body, 0)),
         Row::Domains => Node::Domain(MemoryProximityDomain::get(body, 0)),
         Row::Matrices => Node::Matrix(SystemLocality::get(body, 0)),
         Row::Sides => Node::Side(MemorySideCache::get(body, 0)),
         Row::Bridges => Node::Bridge(CxlHostBridge::get(body, 0)),
         Row::Windows => Node::Window(CxlFixedMemory::get(body, 0)),
         Row::Xors => Node::Xor(XorInterleaveMath::get(body, 0)),
+        Row::Rintcs => Node::Rintc(RintcAffinity::get(body, 0)),
         Row::Unknown => Node::Unknown,
     }
 }

@@ -3,24 +3,24 @@ use mathlib.Core.Path.{_≡_, refl, _∙_}
 use Prim.Native.Nat.{ℕ, zero, suc, _+_, _≤_, _<_}
 use mathlib.Core.List.{List, [], _∷_, _++_, append-assoc, append-nil}
 use mathlib.Core.Bool.{Bool, true, false}
-use mathlib.Core.Option.{Option, none, some}
+use mathlib.Core.Option.{Option, none, some, Option·map}
 use mathlib.Core.Logic.{⊎-elim}
 use native.Mathlib.Omega.{arith}
 use lib.ListN.{length, drop}
-use Rattle.format.specs.Bytes.{pick, Answer, refused, given, andThen, orRefused}
+use Rattle.format.specs.Bytes.{pick, find, Answer, refused, given, andThen, orRefused}
 use Rattle.format.specs.Layout.{Item, fix, fld, two, to, orNone, fieldsWith}
 use Rattle.format.specs.Table.{Table}
 use Rattle.format.specs.Form.{layout}
-use Rattle.format.specs.Row.{Row, rowOf, formIn, known}
+use Rattle.format.specs.Row.{Row, rowOf, formIn, isRetired, known}
 use Rattle.format.specs.Node.{Node, nodeAt, Entry, ordinalOf}
 use Rattle.format.specs.Normal.{callsOf}
-use Rattle.format.specs.Read.{typeIn, framed, Frames, Seen, seenAs, entryOf, walk}
-use Rattle.format.specs.Out.{every, nodesFrom}
+use Rattle.format.specs.Read.{typeIn, framed, Frames, ended, badFrame, framedAt, Seen, seenAs, entryOf, walk}
+use Rattle.format.specs.Out.{every, nodesFrom, old}
 use Rattle.laws.proofs.Good.{knows-every}
 use Rattle.laws.proofs.Masks.{walk-first}
 use Rattle.frames.specs.Frames.{ahead}
 use Rattle.frames.proofs.Places.{framed-then, recordAt, next, ahead-end, ahead-bad, ahead-next, lt-or-le}
-use Rattle.readout.specs.Places.{ordinalAt, callsIn, callsAs, isRow, callsFrom, unlessUnknown}
+use Rattle.readout.specs.Places.{ordinalAt, callsIn, callsAs, isRow, callsFrom, unlessUnknown, firstOld}
 use Rattle.readout.proofs.Ordinals.{Agrees, agrees-here, agrees-next}
 
 -- fields are the same where references are read the same
@@ -76,3 +76,21 @@ module _ (t : Table) (rev : ℕ) (c : List ℕ) where
           rw (← is, ahead-next t c p f)
           (out-step (rowOf t rev (typeIn t bs) bs) p bs ns (ordinalAt t c p) (ordinalOf es) (λ ms. nodesFrom es′ ms ss′) (callsFrom t rev (ordinalAt t c) fs) fs (agrees-here t c p es a)
           (λ n. ih es′ (n ∷ ns) ss′ l′ a′ rest))
+
+-- the first record of a retired row is the same for who sees records and for who looks at frames
+pub old-told : (t : Table) (rev : ℕ) (es : List Entry) (fs : Frames) (ss : List Seen) → walk t rev every es fs ≡ given ss → Option·map (λ s. s .place) (old ss) ≡ firstOld t rev fs
+unfolding walk old firstOld
+old-told t rev es ended ss e = let z : [] ≡ ss = cc in rw (← z)
+old-told t rev es (badFrame p) ss e = absurd (let z : _≡_ {A = ℕ} 0 1 = cc in omega arith)
+old-told t rev es (framedAt p bs rest) ss e =
+    let (us, fine, more, is) = walk-first t rev every es p bs rest e in
+    rw (← is) (by (rowOf t rev (typeIn t bs) bs) us (old-told t rev (entryOf (seenAs t rev every p bs) ∷ es) rest us more))
+  where
+    by : (o : Option Row) (us : List Seen) → Option·map (λ s. s .place) (find (λ s. isRetired (s .row)) us) ≡ firstOld t rev rest
+        → Option·map (λ (s : Seen). s .place) (pick (isRetired (known every o)) (some (seenAs t rev every p bs)) (find (λ s. isRetired (s .row)) us)) ≡ pick (isRetired o) (some p) (firstOld t rev rest)
+    by none us ih = ih
+    by (some r) us ih = rw (knows-every r) (split (isRetired (some r)))
+      where
+        split : (x : Bool) → Option·map (λ (s : Seen). s .place) (pick x (some (seenAs t rev every p bs)) (find (λ s. isRetired (s .row)) us)) ≡ pick x (some p) (firstOld t rev rest)
+        split true = refl
+        split false = ih

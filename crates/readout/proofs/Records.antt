@@ -11,7 +11,7 @@ use lib.Seq.{take-at, drop-at, drop-drop}
 use lib.ListN.{length, length-append, take, drop, replicate, replicate-append-replicate}
 use Rattle.format.specs.Bytes.{pick, at, value, part, over}
 use Rattle.format.specs.Layout.{Item, fld, to, asIs, width, layWith, fieldsWith}
-use Rattle.format.specs.Form.{Form, processor, cache, memory, acpi, pci, rintc, domain, matrix, side, bridge, window, xor, layout, ways}
+use Rattle.format.specs.Form.{Form, processor, cache, memory, acpi, pci, rintc, oldRintc, domain, matrix, side, bridge, window, xor, layout, ways}
 use Rattle.format.specs.Row.{initiators, matrices, sides, windows, xors, formIn}
 use Rattle.format.specs.Kind.{Kind, Processor, Resource, Cache, Memory, Acpi, Pci, Rintc, Domain, Matrix, Cell, Side, Handle, Bridge, Window, WindowTarget, Xor, Map, body}
 use Rattle.format.specs.Normal.{call, each, eachSet, settings, calls, callsOfNode}
@@ -143,6 +143,7 @@ one memory = true
 one acpi = true
 one pci = true
 one rintc = true
+one oldRintc = true
 one domain = true
 one (matrix i t) = false
 one (side n) = false
@@ -158,6 +159,7 @@ one-short memory vs h = rw (length-call Memory vs) (omega arith)
 one-short acpi vs h = rw (length-call Acpi vs) (omega arith)
 one-short pci vs h = rw (length-call Pci vs) (omega arith)
 one-short rintc vs h = rw (length-call Rintc vs) (omega arith)
+one-short oldRintc vs h = omega arith
 one-short domain vs h = rw (length-call Domain vs) (omega arith)
 one-short (matrix i t) vs h = never h
 one-short (side n) vs h = never h

@@ -3,21 +3,22 @@ use mathlib.Core.Path.{_≡_, refl, sym, ap, _∙_}
 use Prim.Native.Nat.{ℕ, _+_, _≤_, _<_}
 use mathlib.Core.List.{List}
 use mathlib.Core.Bool.{Bool, true, false}
-use mathlib.Core.Option.{Option, some}
+use mathlib.Core.Option.{Option, none, some}
 use native.Mathlib.Omega.{arith}
 use lib.ListN.{length, length-append, drop}
 use lib.Dec.{eqb, leb}
-use borrow.Author.Tests.{eqb-true, leb-true}
-use Rattle.format.specs.Bytes.{value, part, refused, given, over}
+use borrow.Author.Tests.{eqb-true, ne-eqb, leb-true}
+use Rattle.format.specs.Bytes.{pick, value, part, refused, given, andThen, unlessFound, over}
+use Rattle.format.specs.Layout.{asIs}
 use Rattle.format.specs.Table.{Table, front, limit, revision}
-use Rattle.format.specs.Row.{Row, processors, caches, matrices, home, rowType, column, matches, rowOf}
+use Rattle.format.specs.Row.{Row, processors, caches, matrices, home, rowType, column, matches, rowOf, isRetired}
 use Rattle.format.specs.Read.{typeIn, framed}
 use Rattle.laws.proofs.Lays.{both-true}
 use Rattle.laws.proofs.Masks.{row-then}
 use Rattle.frames.specs.Frames.{ahead, recordIn}
-use Rattle.frames.proofs.Places.{framed-then, recordAt, ahead-end, ahead-bad, ahead-next, room}
+use Rattle.frames.proofs.Places.{framed-then, recordAt, next, ahead-end, ahead-bad, ahead-next, room}
 use Rattle.readout.specs.Laid.{Laid}
-use Rattle.readout.specs.Places.{Small, ordinalAt, callsAs, isRow, callsFrom, unlessUnknown, callsAt, measured}
+use Rattle.readout.specs.Places.{Small, ordinalAt, callsAs, isRow, callsFrom, unlessUnknown, firstOld, noted, callsAt, measured}
 use Rattle.readout.proofs.Lists.{Coming, all-coming, all-laid, come}
 
 -- a record of a row is small
@@ -88,41 +89,60 @@ module _ (t : Table) (rev : ℕ) (c a : List ℕ) where
 
 -- ---- the walk that measures
 
-module _ (t : Table) (rev : ℕ) (c : List ℕ) where
-  -- from place p on the calls are still to be counted, behind q bytes
-  pub record Counting (p q : ℕ) : Type 0 where
-    pub coming : q + length (callsFrom t rev (ordinalAt t c) (ahead t c p)) ≡ 28 + length (callsAt t rev c)
-    pub told : measured t rev c ≡ unlessUnknown t rev (28 + length (callsAt t rev c)) (ahead t c p)
+-- the first place so far, or else the one that comes
+abbrev orElse : Option ℕ → Option ℕ → Option ℕ
+orElse none q = q
+orElse (some p) q = some p
 
-  pub counting-start : Counting (front t) 28
+or-none : (o : Option ℕ) → orElse o none ≡ o
+or-none none = refl
+or-none (some p) = refl
+
+-- one record more, at p: x says whether its row is retired
+or-next : (o p : ℕ) (x : Bool) (more : Option ℕ) → 0 < p → orElse (noted o) (pick x (some p) more) ≡ orElse (noted (pick (eqb o 0) (pick x p 0) o)) more
+or-next o p x more l = by (eqb o 0) x refl
+  where
+    by : (y x : Bool) → eqb o 0 ≡ y → orElse (pick y none (some o)) (pick x (some p) more) ≡ orElse (noted (pick y (pick x p 0) o)) more
+    by true true e = rw (ne-eqb p 0 (λ z. omega arith))
+    by true false e = refl
+    by false x e = rw e
+
+module _ (t : Table) (rev : ℕ) (c : List ℕ) where
+  -- from place p on the calls are still to be counted, behind q bytes; o: the place of the first record of a retired row so far
+  pub record Counting (p q o : ℕ) : Type 0 where
+    pub coming : q + length (callsFrom t rev (ordinalAt t c) (ahead t c p)) ≡ 28 + length (callsAt t rev c)
+    pub told : measured t rev c ≡ andThen (unlessUnknown t rev (28 + length (callsAt t rev c)) (ahead t c p)) (λ n. unlessFound 32 asIs (orElse (noted o) (firstOld t rev (ahead t c p))) (given n))
+
+  pub counting-start : Counting (front t) 28 0
   unfolding callsAt measured
   counting-start = record { coming = refl; told = refl }
 
-  module _ {p q : ℕ} where
-    pub counting-end : length c ≤ p → Counting p q → given q ≡ measured t rev c
-    unfolding callsFrom unlessUnknown
+  module _ {p q o : ℕ} where
+    pub counting-end : length c ≤ p → Counting p q o → unlessFound 32 asIs (noted o) (given q) ≡ measured t rev c
+    unfolding callsFrom unlessUnknown firstOld
     counting-end l w =
         let e : q + 0 ≡ 28 + length (callsAt t rev c) = rw (ahead-end t c p l) at (w .coming) in
         let z : q ≡ 28 + length (callsAt t rev c) = omega (arith, e) in
-        ap given z ∙ sym (rw (ahead-end t c p l) at (w .told))
+        ap (λ (n : ℕ). unlessFound 32 asIs (noted o) (given n)) z ∙ sym (rw (ahead-end t c p l, or-none) at (w .told))
 
-    pub counting-bad : p < length c → framed t (drop p c) ≡ false → Counting p q → given q ≡ measured t rev c
-    unfolding callsFrom unlessUnknown
+    pub counting-bad : p < length c → framed t (drop p c) ≡ false → Counting p q o → unlessFound 32 asIs (noted o) (given q) ≡ measured t rev c
+    unfolding callsFrom unlessUnknown firstOld
     counting-bad l f w =
         let e : q + 0 ≡ 28 + length (callsAt t rev c) = rw (ahead-bad t c p l f) at (w .coming) in
         let z : q ≡ 28 + length (callsAt t rev c) = omega (arith, e) in
-        ap given z ∙ sym (rw (ahead-bad t c p l f) at (w .told))
+        ap (λ (n : ℕ). unlessFound 32 asIs (noted o) (given n)) z ∙ sym (rw (ahead-bad t c p l f, or-none) at (w .told))
 
-    module _ {bs : List ℕ} {o : Option Row} (T : Turn t rev c p bs o) where
-      pub counting-unknown : isRow o ≡ false → Counting p q → refused 29 p ≡ measured t rev c
+    module _ {bs : List ℕ} {row : Option Row} (T : Turn t rev c p bs row) where
+      pub counting-unknown : isRow row ≡ false → Counting p q o → refused 29 p ≡ measured t rev c
       unfolding unlessUnknown
       counting-unknown u w = sym (rw (ahead-next t c p (T .frame), rw (T .row) at u) at (w .told))
 
-      pub counting-next : (n : ℕ) → isRow o ≡ true → n ≡ length (callsAs (ordinalAt t c p) o bs) → Counting p q → Counting (p + length bs) (q + n)
-      unfolding callsFrom unlessUnknown
-      counting-next n u l w =
+      pub counting-next : (n o′ : ℕ) → 0 < p → isRow row ≡ true → n ≡ length (callsAs (ordinalAt t c p) row bs) → o′ ≡ pick (eqb o 0) (pick (isRetired row) p 0) o → Counting p q o
+          → Counting (p + length bs) (q + n) o′
+      unfolding callsFrom unlessUnknown firstOld
+      counting-next n o′ pos u l i w =
           let f = ahead-next t c p (T .frame) in
           let k = rw (T .row) at u in
           let e = rw (f, k, length-append) at (w .coming) in
           let m = rw (T .row, T .body) at l in
-          rw (T .body) (record { coming = omega (arith, e, m); told = rw (f, k) at (w .told) })
+          rw (T .body, i, T .row) (record { coming = omega (arith, e, m); told = rw (f, k, or-next o p (isRetired (rowOf t rev (typeIn t (recordAt t c p)) (recordAt t c p))) (firstOld t rev (ahead t c (next t c p))) pos) at (w .told) })

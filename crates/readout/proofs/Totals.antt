@@ -1,13 +1,14 @@
 -- Reading out by places is reading out: of a table that is accepted with every row known, the walk's answer and bytes are the format's.
-use mathlib.Core.Path.{_≡_, refl, sym, _∙_}
+use mathlib.Core.Path.{_≡_, refl, sym}
 use Prim.Native.Nat.{ℕ, _+_, _≤_}
 use mathlib.Core.List.{List, [], _++_}
 use mathlib.Core.Bool.{Bool, true, false}
-use mathlib.Core.Option.{none, some}
+use mathlib.Core.Option.{Option, none, some, Option·map}
 use native.Mathlib.Omega.{arith}
 use lib.ListN.{length, length-append}
 use lib.Dec.{eqb}
-use Rattle.format.specs.Bytes.{pick, Answer, refused, given, andThen, ofGiven, at, part}
+use Rattle.format.specs.Bytes.{pick, Answer, refused, given, andThen, ofGiven, unlessFound, at, part}
+use Rattle.format.specs.Layout.{asIs}
 use Rattle.format.specs.Table.{Table, front, limit, revision}
 use Rattle.format.specs.Row.{rowOf}
 use Rattle.format.specs.Node.{Node}
@@ -15,16 +16,16 @@ use Rattle.format.specs.Recipe.{means}
 use Rattle.format.specs.Normal.{callsOf, headCall, recipeOf}
 use Rattle.format.specs.Read.{signed, own, typeIn, Frames, ended, badFrame, framedAt, Seen, judgeHead, walked, accept}
 use Rattle.format.specs.Build.{fitting, written}
-use Rattle.format.specs.Out.{every, nodesFrom, headIn, outOf, meaningOf, readOut, recipe, outWritten}
+use Rattle.format.specs.Out.{every, nodesFrom, old, headIn, outOf, meaningOf, readOut, recipe, outWritten}
 use Rattle.laws.proofs.Bytes.{length-part}
 use Rattle.laws.proofs.Finds.{then-given}
 use Rattle.laws.proofs.Trips.{judged, own-whole}
 use Rattle.header.proofs.Laws.{front-long}
 use Rattle.frames.specs.Frames.{framesOf}
 use Rattle.read.proofs.Listing.{signed-as}
-use Rattle.readout.specs.Places.{isRow, unlessUnknown, callsAt, measured, recipeAs, outAs}
+use Rattle.readout.specs.Places.{isRow, unlessUnknown, firstOld, callsAt, measured, recipeAs, outAs}
 use Rattle.readout.proofs.Ordinals.{agrees-start}
-use Rattle.readout.proofs.Outs.{out-all}
+use Rattle.readout.proofs.Outs.{out-all, old-told}
 
 module _ (t : Table) (rev : ℕ) where
   unless-map : {A B : Type 0} (f : A → B) (a : A) (fs : Frames) → unlessUnknown t rev (f a) fs ≡ andThen (unlessUnknown t rev a fs) (λ x. given (f x))
@@ -62,17 +63,23 @@ module _ (b : List ℕ) (t : Table) (ss : List Seen) (h : judgeHead b ≡ given 
       let J = judged b t h in
       length-part b 10 26 (omega (arith, J .long, J .lent, front-long t))
 
-  measured-is : measured t (at b 8) (own b) ≡ andThen (callsIf (nodesFrom [] [] ss)) (λ cs. given (28 + length cs))
-  unfolding measured
-  measured-is = unless-map t (at b 8) (λ cs. 28 + length cs) (callsAt t (at b 8) (own b)) (framesOf t (own b)) ∙ rw nodes-told
+  old-place : Option·map (λ s. s .place) (old ss) ≡ firstOld t (at b 8) (framesOf t (own b))
+  unfolding walked
+  old-place = old-told t (at b 8) [] (framesOf t (own b)) ss w
 
-  answer : (x : Bool) (room : ℕ) (N : Answer (List Node))
-      → andThen (pick x (andThen N (λ ns. given (means (headIn t b) ns))) (refused 30 8)) (λ m. fitting 31 room (length (recipeOf m)))
-      ≡ pick x (andThen (andThen (callsIf N) (λ cs. given (28 + length cs))) (fitting 31 room)) (refused 30 8)
+  measured-is : measured t (at b 8) (own b) ≡ andThen (andThen (callsIf (nodesFrom [] [] ss)) (λ cs. given (28 + length cs))) (λ n. unlessFound 32 asIs (Option·map (λ s. s .place) (old ss)) (given n))
+  unfolding measured
+  measured-is = rw (unless-map t (at b 8) (λ cs. 28 + length cs) (callsAt t (at b 8) (own b)) (framesOf t (own b)), nodes-told, old-place)
+
+  -- what is answered of what the nodes mean; O: the first record of a retired row
+  answer : (x : Bool) (room : ℕ) (O : Option Seen) (N : Answer (List Node))
+      → andThen (pick x (andThen N (λ ns. unlessFound 32 (λ s. s .place) O (given (means (headIn t b) ns)))) (refused 30 8)) (λ m. fitting 31 room (length (recipeOf m)))
+      ≡ pick x (andThen (andThen (andThen (callsIf N) (λ cs. given (28 + length cs))) (λ n. unlessFound 32 asIs (Option·map (λ s. s .place) O) (given n))) (fitting 31 room)) (refused 30 8)
   unfolding recipeOf
-  answer false room N = refl
-  answer true room (refused n p) = refl
-  answer true room (given ns) =
+  answer false room O N = refl
+  answer true room O (refused n p) = refl
+  answer true room (some s) (given ns) = refl
+  answer true room none (given ns) =
       let i = identity-long in
       let l = length-append (part b 10 26) (callsOf ns) in
       let e : length (headCall (headIn t b) ++ callsOf ns) ≡ 28 + length (callsOf ns) = omega arith in
@@ -80,20 +87,21 @@ module _ (b : List ℕ) (t : Table) (ss : List Seen) (h : judgeHead b ≡ given 
 
   pub answered : (room : ℕ) → readOut b room ≡ outAs t b room
   unfolding readOut meaningOf outOf outAs
-  answered room = rw (h, w, measured-is) (answer (eqb (at b 8) (revision t)) room (nodesFrom [] [] ss))
+  answered room = rw (h, w, measured-is) (answer (eqb (at b 8) (revision t)) room (old ss) (nodesFrom [] [] ss))
 
-  bytes : (x : Bool) (room : ℕ) (buffer : List ℕ) (N : Answer (List Node)) → callsIf N ≡ unlessUnknown t (at b 8) (callsAt t (at b 8) (own b)) (framesOf t (own b))
-      → written (andThen (pick x (andThen N (λ ns. given (means (headIn t b) ns))) (refused 30 8)) (λ m. fitting 31 room (length (recipeOf m))))
-      (ofGiven recipeOf (pick x (andThen N (λ ns. given (means (headIn t b) ns))) (refused 30 8))) buffer
-      ≡ written (andThen (pick x (andThen N (λ ns. given (means (headIn t b) ns))) (refused 30 8)) (λ m. fitting 31 room (length (recipeOf m)))) (recipeAs t b) buffer
+  bytes : (x : Bool) (room : ℕ) (buffer : List ℕ) (O : Option Seen) (N : Answer (List Node)) → callsIf N ≡ unlessUnknown t (at b 8) (callsAt t (at b 8) (own b)) (framesOf t (own b))
+      → written (andThen (pick x (andThen N (λ ns. unlessFound 32 (λ s. s .place) O (given (means (headIn t b) ns)))) (refused 30 8)) (λ m. fitting 31 room (length (recipeOf m))))
+      (ofGiven recipeOf (pick x (andThen N (λ ns. unlessFound 32 (λ s. s .place) O (given (means (headIn t b) ns)))) (refused 30 8))) buffer
+      ≡ written (andThen (pick x (andThen N (λ ns. unlessFound 32 (λ s. s .place) O (given (means (headIn t b) ns)))) (refused 30 8)) (λ m. fitting 31 room (length (recipeOf m)))) (recipeAs t b) buffer
   unfolding recipeOf recipeAs written
-  bytes false room buffer N e = refl
-  bytes true room buffer (refused n p) e = refl
-  bytes true room buffer (given ns) e = rw (unless-given t (at b 8) (callsAt t (at b 8) (own b)) (callsOf ns) (framesOf t (own b)) e)
+  bytes false room buffer O N e = refl
+  bytes true room buffer O (refused n p) e = refl
+  bytes true room buffer (some s) (given ns) e = refl
+  bytes true room buffer none (given ns) e = rw (unless-given t (at b 8) (callsAt t (at b 8) (own b)) (callsOf ns) (framesOf t (own b)) e)
 
   pub wrote : (buffer : List ℕ) → outWritten b buffer ≡ written (outAs t b (length buffer)) (recipeAs t b) buffer
   unfolding outWritten readOut recipe meaningOf outOf
-  wrote buffer = rw (← answered (length buffer), h, w) (bytes (eqb (at b 8) (revision t)) (length buffer) buffer (nodesFrom [] [] ss) nodes-told)
+  wrote buffer = rw (← answered (length buffer), h, w) (bytes (eqb (at b 8) (revision t)) (length buffer) buffer (old ss) (nodesFrom [] [] ss) nodes-told)
 
 -- ---- refusals 20 to 27
 

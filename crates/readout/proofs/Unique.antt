@@ -18,11 +18,12 @@ use Rattle.readout.proofs.read_out.Reads as read-out
 abbrev outOf : Answer ℕ → ReadOut
 outOf (given n) = out.Written n
 outOf (refused k p) =
-    pick (eqb k 29) (out.Unknown p) (pick (eqb k 30) out.Revision (pick (eqb k 31) (out.Room p) (out.Refused (refusalOf k p))))
+    pick (eqb k 29) (out.Unknown p) (pick (eqb k 32) (out.Retired p) (pick (eqb k 30) out.Revision (pick (eqb k 31) (out.Room p) (out.Refused (refusalOf k p)))))
 
 out-back : (a : ReadOut) → outOf (shown a) ≡ a
 out-back (out.Written n) = refl
 out-back (out.Unknown p) = refl
+out-back (out.Retired p) = refl
 out-back out.Revision = refl
 out-back (out.Room n) = refl
 out-back (out.Refused Short) = refl

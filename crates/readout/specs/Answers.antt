@@ -7,16 +7,18 @@ use Rattle.readout.specs.declared.Measured.the-variants as measured
 use Rattle.readout.specs.declared.ReadOut.{ReadOut}
 use Rattle.readout.specs.declared.ReadOut.the-variants as out
 
--- a length, or refusal 29
+-- a length, or refusal 29 or 32
 abbrev pub measuredAs : Measured → Answer ℕ
 measuredAs (measured.Length n) = given n
 measuredAs (measured.Unknown p) = refused 29 p
+measuredAs (measured.Retired p) = refused 32 p
 
 -- the length written, or the refusal
 abbrev pub shown : ReadOut → Answer ℕ
 shown (out.Written n) = given n
 shown (out.Refused r) = refusal r
 shown (out.Unknown p) = refused 29 p
+shown (out.Retired p) = refused 32 p
 shown out.Revision = refused 30 8
 shown (out.Room n) = refused 31 n
 

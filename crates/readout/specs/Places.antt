@@ -6,11 +6,11 @@ use mathlib.Core.Bool.{Bool, true, false}
 use mathlib.Core.Option.{Option, none, some}
 use lib.ListN.{length}
 use lib.Dec.{eqb, ltb}
-use Rattle.format.specs.Bytes.{pick, Answer, refused, given, andThen, at, value, part}
-use Rattle.format.specs.Layout.{fld, lay, fieldsWith}
+use Rattle.format.specs.Bytes.{pick, Answer, refused, given, andThen, unlessFound, at, value, part}
+use Rattle.format.specs.Layout.{fld, asIs, lay, fieldsWith}
 use Rattle.format.specs.Table.{Table, limit, revision}
 use Rattle.format.specs.Form.{Form, layout}
-use Rattle.format.specs.Row.{Row, processors, caches, matrices, rowOf, formIn}
+use Rattle.format.specs.Row.{Row, processors, caches, matrices, rowOf, formIn, isRetired}
 use Rattle.format.specs.Normal.{calls, headCall}
 use Rattle.format.specs.Read.{own, typeIn, Frames, ended, badFrame, framedAt}
 use Rattle.format.specs.Build.{fitting}
@@ -57,6 +57,16 @@ unlessUnknown t rev a ended = given a
 unlessUnknown t rev a (badFrame p) = given a
 unlessUnknown t rev a (framedAt p bs rest) = pick (isRow (rowOf t rev (typeIn t bs) bs)) (unlessUnknown t rev a rest) (refused 29 p)
 
+-- the place of the first record of a retired row
+unfoldable pub firstOld : Table → ℕ → Frames → Option ℕ
+firstOld t rev ended = none
+firstOld t rev (badFrame p) = none
+firstOld t rev (framedAt p bs rest) = pick (isRetired (rowOf t rev (typeIn t bs) bs)) (some p) (firstOld t rev rest)
+
+-- a place as the walk keeps it: 0 stands for none
+abbrev pub noted : ℕ → Option ℕ
+noted p = pick (eqb p 0) none (some p)
+
 -- no more bytes than a table has, of a processor and a cache the bytes of its fields, and of a matrix no more initiators and targets than its row allows
 pub record Small (row : Option Row) (bs : List ℕ) : Type 0 where
   pub short : length bs ≤ limit
@@ -71,14 +81,16 @@ pub record Small (row : Option Row) (bs : List ℕ) : Type 0 where
 unfoldable pub callsAt : Table → ℕ → List ℕ → List ℕ
 callsAt t rev c = callsFrom t rev (ordinalAt t c) (framesOf t c)
 
--- the length of its recipe, or refusal 29
+-- the length of its recipe, or refusal 29, or 32
 unfoldable pub measured : Table → ℕ → List ℕ → Answer ℕ
-measured t rev c = unlessUnknown t rev (28 + length (callsAt t rev c)) (framesOf t c)
+measured t rev c =
+    andThen (unlessUnknown t rev (28 + length (callsAt t rev c)) (framesOf t c))
+    (λ n. unlessFound 32 asIs (firstOld t rev (framesOf t c)) (given n))
 
 -- its recipe
 unfoldable pub recipeAs : Table → List ℕ → List ℕ
 recipeAs t b = headCall (headIn t b) ++ callsAt t (at b 8) (own b)
 
--- refusal 29 to 31, or the length of the recipe
+-- refusal 29 to 32, or the length of the recipe
 unfoldable pub outAs : Table → List ℕ → ℕ → Answer ℕ
 outAs t b room = pick (eqb (at b 8) (revision t)) (andThen (measured t (at b 8) (own b)) (fitting 31 room)) (refused 30 8)

@@ -5,14 +5,14 @@ ghost use mathlib.Core.List.{_∷_, [], _++_};
 ghost use Prim.Native.Nat.{ℕ, _+_, _*_, _-_, _/_, _%_, _≤_, _<_};
 ghost use lib.Dec.{eqb};
 ghost use lib.ListN.{length, replicate};
-ghost use Rattle.format.specs.Bytes.{pick, value, part, over};
+ghost use Rattle.format.specs.Bytes.{pick, given, unlessFound, value, part, over};
 ghost use Rattle.format.specs.Layout.{asIs, fld, to};
 ghost use Rattle.format.specs.Table.{pptt, limit};
 ghost use Rattle.format.specs.Read.{own};
 ghost use Rattle.format.specs.Build.{fitting, written};
 ghost use Rattle.format.specs.Out.{readOut, outWritten};
 ghost use Rattle.format.specs.Form.{cache};
-ghost use Rattle.format.specs.Row.{processors, matrices, sides, windows, xors, formIn};
+ghost use Rattle.format.specs.Row.{processors, matrices, sides, windows, xors, formIn, isRetired};
 ghost use Rattle.format.specs.Kind as format;
 ghost use Rattle.format.specs.Normal.{call, each, eachSet, settings};
 ghost use Rattle.laws.specs.Offsets.{fieldsAt};
@@ -22,7 +22,7 @@ ghost use Rattle.frames.specs.Frames.{Passed};
 ghost use Rattle.rows.specs.Rows.{rowMeant};
 ghost use Rattle.read.specs.Places.{RowOf};
 ghost use Rattle.readout.specs.Laid.{Laid};
-ghost use Rattle.readout.specs.Places.{Small, ordinalAt, setting, callsIn, callsAs, isRow, callsAt, measured, recipeAs, outAs};
+ghost use Rattle.readout.specs.Places.{Small, ordinalAt, setting, callsIn, callsAs, isRow, noted, callsAt, measured, recipeAs, outAs};
 ghost use Rattle.readout.specs.Answers.{measuredAs, shown, numberOf, placeOf};
 use cedt::CxlFixedMemory;
 use cedt::CxlHostBridge;
@@ -352,6 +352,28 @@ fn is_known(row: Row) -> bool
         Row::Bridges => true,
         Row::Windows => true,
         Row::Xors => true,
+        Row::OldRintcs => true,
+        Row::Unknown => false,
+    }
+}
+
+// Whether no recipe says a record of the row any more.
+fn is_retired(row: Row) -> bool
+    ensures { λ r. ⌜ r ≡ isRetired (rowMeant row) ⌝ }
+{
+    match row {
+        Row::OldRintcs => true,
+        Row::Processors => false,
+        Row::Caches => false,
+        Row::Memories => false,
+        Row::Initiators => false,
+        Row::Rintcs => false,
+        Row::Domains => false,
+        Row::Matrices => false,
+        Row::Sides => false,
+        Row::Bridges => false,
+        Row::Windows => false,
+        Row::Xors => false,
         Row::Unknown => false,
     }
 }
@@ -383,6 +405,7 @@ fn put_record(
         Row::Bridges => at + CxlHostBridge::get(body, 0).put_body(out, at),
         Row::Windows => put_window(body, out, at),
         Row::Xors => put_maths(body, out, at),
+        Row::OldRintcs => at,
         Row::Unknown => at,
     }
 }
@@ -408,16 +431,18 @@ fn calls_len(row: Row, body: &[u8]) -> usize
         Row::Bridges => 1 + CxlHostBridge::BODY,
         Row::Windows => put_window(body, &mut none, 0),
         Row::Xors => put_maths(body, &mut none, 0),
+        Row::OldRintcs => 0,
         Row::Unknown => 0,
     }
 }
 
 // ---- answers
 
-// The length of a recipe, or the place of the first unknown record.
+// The length of a recipe, or the place of the first unknown record, or of the first of a retired row.
 enum Measured {
     Length(usize),
     Unknown(usize),
+    Retired(usize),
 }
 
 // What reading out answers.
@@ -430,6 +455,8 @@ pub enum ReadOut {
     Revision,
     // The first unknown record's place.
     Unknown(usize),
+    // The place of the first record of a retired row.
+    Retired(usize),
     // The bytes needed.
     Room(usize),
 }
@@ -444,6 +471,7 @@ impl ReadOut {
             ReadOut::Refused(r) => r.number(),
             ReadOut::Revision => 30,
             ReadOut::Unknown(_) => 29,
+            ReadOut::Retired(_) => 32,
             ReadOut::Room(_) => 31,
         }
     }
@@ -457,12 +485,36 @@ impl ReadOut {
             ReadOut::Refused(r) => r.place(),
             ReadOut::Revision => 8,
             ReadOut::Unknown(p) => p,
+            ReadOut::Retired(p) => p,
             ReadOut::Room(n) => n,
         }
     }
 }
 
 // ---- the whole table
+
+// The place of the first record of a retired row, 0 for none: the one so far, or else this record's.
+fn first_retired(old: usize, row: Row, p: usize) -> usize
+    ensures { λ r. ⌜ r ≡ pick (eqb old 0) (pick (isRetired (rowMeant row)) p 0) old ⌝ }
+{
+    if old != 0 {
+        return old;
+    }
+    if is_retired(row) {
+        return p;
+    }
+    0
+}
+
+// What is measured where no record is unknown.
+fn unless_retired(old: usize, n: usize) -> Measured
+    ensures { λ r. ⌜ measuredAs r ≡ unlessFound 32 asIs (noted old) (given n) ⌝ }
+{
+    if old != 0 {
+        return Measured::Retired(old);
+    }
+    Measured::Length(n)
+}
 
 // How long the recipe of a table's own bytes is, head and calls, up to the first unknown record.
 fn measure(t: Table, revision: u8, c: &[u8]) -> Measured
@@ -471,10 +523,11 @@ fn measure(t: Table, revision: u8, c: &[u8]) -> Measured
 {
     let mut p = t.front();
     let mut q = 1 + TableHeader::BODY;
+    let mut old = 0;
     while p < c.len() {
         let s = field::rest(c, p);
         if !frames::framed(t, s) {
-            return Measured::Length(q);
+            return unless_retired(old, q);
         }
         let body = frames::record_in(t, s);
         let row = rows::row_of(t, revision, body);
@@ -482,9 +535,10 @@ fn measure(t: Table, revision: u8, c: &[u8]) -> Measured
             return Measured::Unknown(p);
         }
         q += calls_len(row, body);
+        old = first_retired(old, row, p);
         p += body.len();
     }
-    Measured::Length(q)
+    unless_retired(old, q)
 }
 
 // The calls of all records of a table's own bytes behind a head, up to the first unknown one.
@@ -565,6 +619,7 @@ fn read_as(t: Table, table: &[u8], out: &mut [u8]) -> ReadOut
     match measure(t, revision, frames::own(table)) {
         Measured::Length(n) => put_recipe(t, table, n, out),
         Measured::Unknown(p) => ReadOut::Unknown(p),
+        Measured::Retired(p) => ReadOut::Retired(p),
     }
 }
 

@@ -1,20 +1,27 @@
--- A byte that is none of a table's kind numbers names nothing there: no test on the way is passed. Bodies and matrices are short.
-use mathlib.Core.Path.{_≡_, sym, ap, _∙_}
+-- A byte that is none of a table's kind numbers names nothing there, and none that is retired: no test on the way is passed. Bodies and matrices are short.
+use mathlib.Core.Path.{_≡_, refl, sym, ap, _∙_}
 use Prim.Native.Nat.{ℕ, suc, _≤_, _<_}
-use mathlib.Core.List.{List}
+use mathlib.Core.List.{List, [], _∷_}
+use mathlib.Core.Bool.{false}
 use mathlib.Core.Option.{none}
 use native.Mathlib.Nat.{mul-le-mul}
 use native.Mathlib.Omega.{arith}
+use denote.Enum.Declared.{tagOf}
+use types.Run.{OneOf, miss}
 use borrow.Author.Tests.{ne-eqb}
-use Rattle.format.specs.Bytes.{at}
+use Rattle.format.specs.Bytes.{has, at}
 use Rattle.format.specs.Table.{Table, pptt, srat, hmat, cedt}
 use Rattle.format.specs.Layout.{width, fields}
 use Rattle.format.specs.Form.{size}
-use Rattle.format.specs.Kind.{Kind, Processor, Resource, Cache, Memory, Acpi, Pci, Rintc, Domain, Matrix, Initiator, Target, Cell, Side, Handle, Bridge, Window, WindowTarget, Xor, Map, kindOf, body}
+use Rattle.format.specs.Kind.{Kind, Processor, Resource, Cache, Memory, Acpi, Pci, Rintc, Domain, Matrix, Initiator, Target, Cell, Side, Handle, Bridge, Window, WindowTarget, Xor, Map, kindOf, retired, body}
 use Rattle.laws.proofs.Bytes.{value-byte}
 use Rattle.laws.proofs.Fields.{fields-now}
 use Rattle.hmat.specs.declared.SystemLocality.{SystemLocality}
 use Rattle.hmat.specs.Hmat.{matrixForm, matrixCall}
+use Rattle.recipe.specs.declared.Named.{Named}
+use Rattle.recipe.specs.declared.Named.the-variants as is
+use Rattle.recipe.specs.Kinds.{named}
+use Rattle.recipe.proofs.Named as nameds
 
 abbrev pub first : Table → ℕ
 first pptt = 16
@@ -24,22 +31,28 @@ first cedt = 64
 
 abbrev pub last : Table → ℕ
 last pptt = 18
-last srat = 35
+last srat = 36
 last hmat = 54
 last cedt = 68
 
-pub unnamed : (t : Table) (b : ℕ) → (first t ≤ b → b ≤ last t → ⊥) → kindOf t b ≡ none
+pub unnamed : (t : Table) (b : ℕ) → (first t ≤ b → b ≤ last t → ⊥) → (none ≡ kindOf t b) × (false ≡ has (retired t) b)
 unfolding kindOf
-unnamed pptt b h = rw (ne-eqb b 16 (λ e. h (omega arith) (omega arith)), ne-eqb b 17 (λ e. h (omega arith) (omega arith)), ne-eqb b 18 (λ e. h (omega arith) (omega arith)))
-unnamed srat b h = rw (ne-eqb b 32 (λ e. h (omega arith) (omega arith)), ne-eqb b 33 (λ e. h (omega arith) (omega arith)), ne-eqb b 34 (λ e. h (omega arith) (omega arith)), ne-eqb b 35 (λ e. h (omega arith) (omega arith)))
-unnamed hmat b h = rw (ne-eqb b 48 (λ e. h (omega arith) (omega arith)), ne-eqb b 49 (λ e. h (omega arith) (omega arith)), ne-eqb b 50 (λ e. h (omega arith) (omega arith)), ne-eqb b 51 (λ e. h (omega arith) (omega arith)), ne-eqb b 52 (λ e. h (omega arith) (omega arith)), ne-eqb b 53 (λ e. h (omega arith) (omega arith)), ne-eqb b 54 (λ e. h (omega arith) (omega arith)))
-unnamed cedt b h = rw (ne-eqb b 64 (λ e. h (omega arith) (omega arith)), ne-eqb b 65 (λ e. h (omega arith) (omega arith)), ne-eqb b 66 (λ e. h (omega arith) (omega arith)), ne-eqb b 67 (λ e. h (omega arith) (omega arith)), ne-eqb b 68 (λ e. h (omega arith) (omega arith)))
+unnamed pptt b h = rw (ne-eqb b 16 (λ e. h (omega arith) (omega arith)), ne-eqb b 17 (λ e. h (omega arith) (omega arith)), ne-eqb b 18 (λ e. h (omega arith) (omega arith))) (refl, refl)
+unnamed srat b h = rw (ne-eqb b 32 (λ e. h (omega arith) (omega arith)), ne-eqb b 33 (λ e. h (omega arith) (omega arith)), ne-eqb b 34 (λ e. h (omega arith) (omega arith)), ne-eqb b 35 (λ e. h (omega arith) (omega arith)), ne-eqb b 36 (λ e. h (omega arith) (omega arith))) (refl, refl)
+unnamed hmat b h = rw (ne-eqb b 48 (λ e. h (omega arith) (omega arith)), ne-eqb b 49 (λ e. h (omega arith) (omega arith)), ne-eqb b 50 (λ e. h (omega arith) (omega arith)), ne-eqb b 51 (λ e. h (omega arith) (omega arith)), ne-eqb b 52 (λ e. h (omega arith) (omega arith)), ne-eqb b 53 (λ e. h (omega arith) (omega arith)), ne-eqb b 54 (λ e. h (omega arith) (omega arith))) (refl, refl)
+unnamed cedt b h = rw (ne-eqb b 64 (λ e. h (omega arith) (omega arith)), ne-eqb b 65 (λ e. h (omega arith) (omega arith)), ne-eqb b 66 (λ e. h (omega arith) (omega arith)), ne-eqb b 67 (λ e. h (omega arith) (omega arith)), ne-eqb b 68 (λ e. h (omega arith) (omega arith))) (refl, refl)
 
-pub nowhere : (t : Table) (b : ℕ) → (16 ≤ b → b ≤ 18 → ⊥) → (32 ≤ b → b ≤ 35 → ⊥) → (48 ≤ b → b ≤ 54 → ⊥) → (64 ≤ b → b ≤ 68 → ⊥) → kindOf t b ≡ none
+pub nowhere : (t : Table) (b : ℕ) → (16 ≤ b → b ≤ 18 → ⊥) → (32 ≤ b → b ≤ 36 → ⊥) → (48 ≤ b → b ≤ 54 → ⊥) → (64 ≤ b → b ≤ 68 → ⊥) → (none ≡ kindOf t b) × (false ≡ has (retired t) b)
 nowhere pptt b p s h c = unnamed pptt b p
 nowhere srat b p s h c = unnamed srat b s
 nowhere hmat b p s h c = unnamed hmat b h
 nowhere cedt b p s h c = unnamed cedt b c
+
+-- what is no kind is none
+pub no-kind : (n : Named) → OneOf (1 ∷ 2 ∷ []) (tagOf nameds.the-type n) → named n ≡ none
+no-kind (is.As k) h = absurd (miss (1 ∷ 2 ∷ []) 0 tt h)
+no-kind is.Retired h = refl
+no-kind is.Nothing h = refl
 
 -- a number that is at least a, and not a
 pub past : {a b : ℕ} → a ≤ b → (b ≡ a → ⊥) → suc a ≤ b

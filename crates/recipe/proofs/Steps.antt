@@ -2,6 +2,7 @@
 use mathlib.Core.Path.{_≡_, refl, sym, ap, _∙_}
 use Prim.Native.Nat.{ℕ, suc, _+_, _-_, _≤_}
 use mathlib.Core.List.{List, [], _∷_, _++_}
+use mathlib.Core.Option.{some}
 use mathlib.Core.Bool.{Bool, true, false, not}
 use native.Mathlib.Omega.{arith}
 use native.Mathlib.Nat.{add-zero, add-assoc}
@@ -14,7 +15,7 @@ use types.Run.{OneOf, miss}
 use Rattle.format.specs.Bytes.{pick, all, firstOf, Answer, refused, given, unless, at}
 use Rattle.format.specs.Layout.{width, fieldsWith, fields, refsGood}
 use Rattle.format.specs.Table.{Table, front, limit}
-use Rattle.format.specs.Form.{Form, processor, cache, memory, acpi, pci, rintc, domain, matrix, side, bridge, window, xor, size, ranges}
+use Rattle.format.specs.Form.{Form, processor, cache, memory, acpi, pci, rintc, oldRintc, domain, matrix, side, bridge, window, xor, size, ranges}
 use Rattle.format.specs.Node.{Node, node, sizes, starts, isOrdinal, atOrdinal}
 use Rattle.format.specs.Kind.{Kind, Processor, Resource, Cache, Handle, WindowTarget, Map, body}
 use Rattle.format.specs.Recipe.{Step as Asked, Newest, aList, aMatrix, other, newest, newestAs, joined, setting, stray, makes, step, fault, faultAt}
@@ -89,7 +90,7 @@ made-turn t ns f vs p s e =
     grown-turn t ns (node f vs ∷ ns) p s (s .nodes + 1) (size f) _ e (rw e (add-one (length ns))) (add-assoc (front t) (sizes ns) (size f)) refl
 
 -- by a new node without references, of which code asks for the first bad field; us: its fields
-module _ (k : Kind) (f : Form) (bs us : List ℕ) (own : maker f ≡ k)
+module _ (k : Kind) (f : Form) (bs us : List ℕ) (own : maker f ≡ some k)
     (same : (ns : List Node) → step k (fields (body k) bs) ns ≡ makes (ranges f (fields (body k) bs)) (node f us) ns)
     (free : (ok : ℕ → ℕ → Bool) (vs : List ℕ) → refsGood ok (body k) vs ≡ true) where
   pub plain-turn : (t : Table) (ns : List Node) (p : ℕ) (s : State) (bad : ℕ) → bad ≡ badField (node f (fields (body k) bs)) → s ≡ stateOf t ns
@@ -171,6 +172,7 @@ parted-as memory us ms = refl
 parted-as acpi us ms = refl
 parted-as pci us ms = refl
 parted-as rintc us ms = refl
+parted-as oldRintc us ms = refl
 parted-as domain us ms = refl
 parted-as (matrix i t) us ms = (us, ms, refl)
 parted-as (side n) us ms = (us, ms, refl)

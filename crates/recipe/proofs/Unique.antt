@@ -1,6 +1,7 @@
 -- Two answers that meet one contract are equal: what an answer stands for names the answer.
-use mathlib.Core.Path.{_≡_, refl, ap}
+use mathlib.Core.Path.{_≡_, refl, sym, ap, _∙_}
 use Prim.Native.Nat.{ℕ}
+use mathlib.Core.Bool.{Bool}
 use mathlib.Core.Option.{Option, none, some}
 use lib.Dec.{eqb}
 use Rattle.format.specs.Bytes.{pick, Answer, refused, given}
@@ -13,12 +14,12 @@ use Rattle.header.proofs.Unique.{table-back}
 use Rattle.recipe.specs.declared.Kind.{Kind}
 use Rattle.recipe.specs.declared.Kind.the-variants.{Processor, Resource, Cache, Memory, Acpi, Pci, Rintc, Domain, Matrix, Initiator, Target, Cell, Side, Handle, Bridge, Window, WindowTarget, Xor, Map}
 use Rattle.recipe.specs.declared.Named.{Named}
-use Rattle.recipe.specs.declared.Named.the-variants.{As, Nothing}
+use Rattle.recipe.specs.declared.Named.the-variants as is
 use Rattle.recipe.specs.declared.Refusal.{Refusal}
-use Rattle.recipe.specs.declared.Refusal.the-variants.{NoHead, BadKind, Cut, Misplaced, BadField, Forward, WrongKind, FullNode, TooLong, Incomplete}
+use Rattle.recipe.specs.declared.Refusal.the-variants.{NoHead, BadKind, Retired, Cut, Misplaced, BadField, Forward, WrongKind, FullNode, TooLong, Incomplete}
 use Rattle.recipe.specs.declared.Checked.{Checked}
 use Rattle.recipe.specs.declared.Checked.the-variants.{Good, Refused}
-use Rattle.recipe.specs.Kinds.{meantKind, named}
+use Rattle.recipe.specs.Kinds.{meantKind, named, isRetired}
 use Rattle.recipe.specs.Answers.{number, shown}
 use Rattle.recipe.proofs.Kind.body_len.Reads as Kind-body-len
 use Rattle.recipe.proofs.Kind.refers.Reads as Kind-refers
@@ -69,28 +70,30 @@ kind-back WindowTarget = refl
 kind-back Xor = refl
 kind-back Map = refl
 
-abbrev namedIn : Option format.Kind → Named
-namedIn none = Nothing
-namedIn (some k) = As (kindNamed k)
+abbrev namedIn : Option format.Kind → Bool → Named
+namedIn none b = pick b is.Retired is.Nothing
+namedIn (some k) b = is.As (kindNamed k)
 
-named-back : (n : Named) → namedIn (named n) ≡ n
-named-back (As k) = ap As (kind-back k)
-named-back Nothing = refl
+named-back : (n : Named) → namedIn (named n) (isRetired n) ≡ n
+named-back (is.As k) = ap is.As (kind-back k)
+named-back is.Retired = refl
+named-back is.Nothing = refl
 
 -- `kind_of`
-one-kind : (a b : Named) (k : Option format.Kind) → named a ≡ k → named b ≡ k → a ≡ b
-one-kind = sole-meant named namedIn named-back
+one-kind : (a b : Named) (k : Option format.Kind) (x : Bool) → named a ≡ k → isRetired a ≡ x → named b ≡ k → isRetired b ≡ x → a ≡ b
+one-kind a b k x e f g h = sym (named-back a) ∙ rw (e, f, g, h) refl ∙ named-back b
 
 -- ---- answers
 
 -- the refusal of a number
 abbrev pub refusalOf : ℕ → Refusal
 refusalOf n =
-    pick (eqb n 1) NoHead (pick (eqb n 2) BadKind (pick (eqb n 3) Cut (pick (eqb n 4) Misplaced (pick (eqb n 5) BadField (pick (eqb n 6) Forward (pick (eqb n 10) WrongKind (pick (eqb n 7) FullNode (pick (eqb n 8) TooLong Incomplete))))))))
+    pick (eqb n 1) NoHead (pick (eqb n 2) BadKind (pick (eqb n 3) Cut (pick (eqb n 4) Misplaced (pick (eqb n 5) BadField (pick (eqb n 6) Forward (pick (eqb n 10) WrongKind (pick (eqb n 7) FullNode (pick (eqb n 8) TooLong (pick (eqb n 12) Retired Incomplete)))))))))
 
 pub refusal-back : (f : Refusal) → refusalOf (number f) ≡ f
 refusal-back NoHead = refl
 refusal-back BadKind = refl
+refusal-back Retired = refl
 refusal-back Cut = refl
 refusal-back Misplaced = refl
 refusal-back BadField = refl
@@ -126,6 +129,6 @@ unique =
     record {
       Kind-body-len = λ k a x y p q. sole;
       Kind-refers = λ k a x y p q. sole;
-      kind-of = λ k a x y p q. one-kind x y _;
+      kind-of = λ k a x y p q l m. one-kind x y _ _ (l .0) (l .1) (m .0) (m .1);
       check = λ k a x y p q. one-check x y _;
     }

@@ -11,9 +11,9 @@ use borrow.Author.Tests.{le-ltb, lt-ltb, eq-eqb, ne-eqb, eqb-true, eqb-false, le
 use Rattle.format.specs.Bytes.{pick, at, Answer, refused, given, unless, value, part}
 use Rattle.format.specs.Layout.{asIs, width, fieldsWith, fields, refsGood}
 use Rattle.format.specs.Table.{Table, pptt, srat, hmat, cedt, code, front, limit, Head, headOf}
-use Rattle.format.specs.Form.{Form, processor, cache, memory, acpi, pci, rintc, domain, matrix, side, bridge, window, xor, typeOf, size}
+use Rattle.format.specs.Form.{Form, processor, cache, memory, acpi, pci, rintc, oldRintc, domain, matrix, side, bridge, window, xor, typeOf, size}
 use Rattle.format.specs.Node.{Node, sizes}
-use Rattle.format.specs.Kind.{Kind, Processor, Resource, Cache, Memory, Acpi, Pci, Rintc, Domain, Matrix, Initiator, Target, Cell, Side, Handle, Bridge, Window, WindowTarget, Xor, Map, kindNumber, kindOf, body}
+use Rattle.format.specs.Kind.{Kind, Processor, Resource, Cache, Memory, Acpi, Pci, Rintc, Domain, Matrix, Initiator, Target, Cell, Side, Handle, Bridge, Window, WindowTarget, Xor, Map, kindNumber, kindOf, noKind, body}
 use Rattle.format.specs.Recipe.{Newest, aList, aMatrix, other, newest, Calls, cutOff, called, cutAs, skip, cut, joined, setting, step, added, fault, faultAt, since, lacking, means, run, tableOf, headed, meaning}
 use Rattle.laws.proofs.Bytes.{value-byte}
 use Rattle.laws.proofs.Finds.{never, unless-given}
@@ -59,6 +59,7 @@ long-enough memory h = omega arith
 long-enough acpi h = absurd (omega arith)
 long-enough pci h = absurd (omega arith)
 long-enough rintc h = absurd (omega arith)
+long-enough oldRintc h = absurd (omega arith)
 long-enough domain h = omega arith
 long-enough (matrix i t) h = omega arith
 long-enough (side n) h = absurd (omega arith)
@@ -239,7 +240,7 @@ module _ (r : List ℕ) (h : Head) where
           rest : Calls
           rest = cut (h .table) 0 (p + 1 + skip (kindOf (h .table) (at r p))) (drop (p + 1 + skip (kindOf (h .table) (at r p))) r)
 
-          by : (o : Option Kind) → lacks (s .newest) o ≡ true → run h q (w .nodes) (cutAs o (drop (p + 1) r) p rest) ≡ refused 11 q
+          by : (o : Option Kind) → lacks (s .newest) o ≡ true → run h q (w .nodes) (cutAs o (noKind (h .table) (at r p)) (drop (p + 1) r) p rest) ≡ refused 11 q
           by none e = rw (lacking-as none, e)
           by (some k) e = long (ltb (length (drop (p + 1) r)) (width (body k)))
             where
@@ -247,7 +248,7 @@ module _ (r : List ℕ) (h : Head) where
               long true = rw (lacking-as (some k), e)
               long false = rw (lacking-as (some k), e)
 
-      pub bad-kind : kindOf (h .table) (at r p) ≡ none → lacks (s .newest) none ≡ false → whole r h ≡ refused 2 p
+      pub bad-kind : kindOf (h .table) (at r p) ≡ none → lacks (s .newest) none ≡ false → whole r h ≡ refused (noKind (h .table) (at r p)) p
       unfolding cutAs run
       bad-kind e f = w .same ∙ rw (cut-at (h .table) r p l, e, lacking-as none, f)
 

@@ -6,13 +6,14 @@ use Rattle.format.specs.Build.{lengthOf}
 use Rattle.format.specs.Recipe.{Meaning}
 use Rattle.header.specs.Header.{meant}
 use Rattle.recipe.specs.declared.Refusal.{Refusal}
-use Rattle.recipe.specs.declared.Refusal.the-variants.{NoHead, BadKind, Cut, Misplaced, BadField, Forward, WrongKind, FullNode, TooLong, Incomplete}
+use Rattle.recipe.specs.declared.Refusal.the-variants.{NoHead, BadKind, Retired, Cut, Misplaced, BadField, Forward, WrongKind, FullNode, TooLong, Incomplete}
 use Rattle.recipe.specs.declared.Checked.{Checked}
 use Rattle.recipe.specs.declared.Checked.the-variants.{Good, Refused}
 
 abbrev pub number : Refusal → ℕ
 number NoHead = 1
 number BadKind = 2
+number Retired = 12
 number Cut = 3
 number Misplaced = 4
 number BadField = 5

@@ -1,6 +1,7 @@
 -- What the kinds of the code are in the words of the format, and what a record of each names.
 use Prim.Native.Nat.{ℕ}
 use mathlib.Core.List.{List, [], _∷_, _++_}
+use mathlib.Core.Bool.{Bool, true, false}
 use mathlib.Core.Option.{Option, none, some}
 use lib.ListN.{drop}
 use Rattle.format.specs.Bytes.{at}
@@ -12,7 +13,7 @@ use Rattle.recipe.specs.declared.Reference.the-variants as names
 use Rattle.recipe.specs.declared.Kind.{Kind}
 use Rattle.recipe.specs.declared.Kind.the-variants.{Processor, Resource, Cache, Memory, Acpi, Pci, Rintc, Domain, Matrix, Initiator, Target, Cell, Side, Handle, Bridge, Window, WindowTarget, Xor, Map}
 use Rattle.recipe.specs.declared.Named.{Named}
-use Rattle.recipe.specs.declared.Named.the-variants.{As, Nothing}
+use Rattle.recipe.specs.declared.Named.the-variants.{As, Retired, Nothing}
 
 abbrev pub meantKind : Kind → format.Kind
 meantKind Processor = format.Processor
@@ -37,7 +38,13 @@ meantKind Map = format.Map
 
 abbrev pub named : Named → Option format.Kind
 named (As k) = some (meantKind k)
+named Retired = none
 named Nothing = none
+
+abbrev pub isRetired : Named → Bool
+isRetired (As k) = false
+isRetired Retired = true
+isRetired Nothing = false
 
 -- what a record of a kind with the fields vs names: a processor its parent, a resource its cache, a cache its next level
 abbrev pub naming : format.Kind → List ℕ → Reference

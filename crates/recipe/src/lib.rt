@@ -3,18 +3,17 @@ ghost use mathlib.Core.Path.{_≡_};
 ghost use Prim.Native.Nat.{ℕ, _+_, _≤_, _<_};
 ghost use mathlib.Core.List.{List, []};
 ghost use mathlib.Core.Bool.{true};
-ghost use mathlib.Core.Option.{none};
 ghost use lib.ListN.{length, drop};
 ghost use lib.Dec.{eqb};
-ghost use Rattle.format.specs.Bytes.{pick, part};
+ghost use Rattle.format.specs.Bytes.{pick, has, part};
 ghost use Rattle.format.specs.Layout.{width};
 ghost use Rattle.format.specs.Table.{pptt, limit, Head, headOf};
-ghost use Rattle.format.specs.Kind.{kindNumber, kindOf, body};
+ghost use Rattle.format.specs.Kind.{kindNumber, kindOf, retired, body};
 ghost use Rattle.format.specs.Recipe.{cut, run, meaning};
 ghost use Rattle.format.specs.Kind as format;
 ghost use Rattle.header.specs.Header.{meant};
-ghost use Rattle.recipe.specs.Kinds.{meantKind, named, referenceOf};
-ghost use Rattle.recipe.specs.Answers.{shown, outlined};
+ghost use Rattle.recipe.specs.Kinds.{meantKind, named, isRetired, referenceOf};
+ghost use Rattle.recipe.specs.Answers.{number, shown, outlined};
 ghost use Rattle.recipe.specs.Machine.{stateOf, Sound, lacks, endedWith, grown, madeBy, bitAt, Clear, noted, ofType, Typed, Turns, TurnsBegun, TurnsWith, Stands};
 use cedt::CxlFixedMemory;
 use cedt::CxlHostBridge;
@@ -36,6 +35,7 @@ use pptt::ProcessorNode;
 use pptt::Resource;
 use srat::GenericInitiator;
 use srat::MemoryAffinity;
+use srat::OldRintcAffinity;
 use srat::RintcAffinity;
 
 // The length of a head's record.
@@ -68,9 +68,10 @@ pub enum Kind {
     Map,
 }
 
-// What a kind byte stands for.
+// What a kind byte stands for: a kind, one that is retired, or nothing.
 pub enum Named {
     As(Kind),
+    Retired,
     Nothing,
 }
 
@@ -143,6 +144,7 @@ impl Kind {
 fn of_pptt(table: Table, byte: u8) -> Named
     requires { ⌜ (kindNumber format.Processor ≤ byte) × (byte ≤ kindNumber format.Cache) ⌝ }
     ensures { λ r. ⌜ named r ≡ kindOf (meant table) byte ⌝ }
+    ensures { λ r. ⌜ isRetired r ≡ has (retired (meant table)) byte ⌝ }
 {
     match table {
         Table::Pptt => match byte {
@@ -159,6 +161,7 @@ fn of_pptt(table: Table, byte: u8) -> Named
 fn of_srat(table: Table, byte: u8) -> Named
     requires { ⌜ (kindNumber format.Memory ≤ byte) × (byte ≤ kindNumber format.Rintc) ⌝ }
     ensures { λ r. ⌜ named r ≡ kindOf (meant table) byte ⌝ }
+    ensures { λ r. ⌜ isRetired r ≡ has (retired (meant table)) byte ⌝ }
 {
     match table {
         Table::Pptt => Named::Nothing,
@@ -166,6 +169,7 @@ fn of_srat(table: Table, byte: u8) -> Named
             MemoryAffinity::KIND => Named::As(Kind::Memory),
             GenericInitiator::ACPI_KIND => Named::As(Kind::Acpi),
             GenericInitiator::PCI_KIND => Named::As(Kind::Pci),
+            OldRintcAffinity::KIND => Named::Retired,
             _ => Named::As(Kind::Rintc),
         },
         Table::Hmat => Named::Nothing,
@@ -176,6 +180,7 @@ fn of_srat(table: Table, byte: u8) -> Named
 fn of_hmat(table: Table, byte: u8) -> Named
     requires { ⌜ (kindNumber format.Domain ≤ byte) × (byte ≤ kindNumber format.Handle) ⌝ }
     ensures { λ r. ⌜ named r ≡ kindOf (meant table) byte ⌝ }
+    ensures { λ r. ⌜ isRetired r ≡ has (retired (meant table)) byte ⌝ }
 {
     match table {
         Table::Pptt => Named::Nothing,
@@ -196,6 +201,7 @@ fn of_hmat(table: Table, byte: u8) -> Named
 fn of_cedt(table: Table, byte: u8) -> Named
     requires { ⌜ (kindNumber format.Bridge ≤ byte) × (byte ≤ kindNumber format.Map) ⌝ }
     ensures { λ r. ⌜ named r ≡ kindOf (meant table) byte ⌝ }
+    ensures { λ r. ⌜ isRetired r ≡ has (retired (meant table)) byte ⌝ }
 {
     match table {
         Table::Pptt => Named::Nothing,
@@ -214,6 +220,7 @@ fn of_cedt(table: Table, byte: u8) -> Named
 // The kind that a byte names in a recipe of this table.
 pub fn kind_of(table: Table, byte: u8) -> Named
     ensures { λ r. ⌜ named r ≡ kindOf (meant table) byte ⌝ }
+    ensures { λ r. ⌜ isRetired r ≡ has (retired (meant table)) byte ⌝ }
 {
     match byte {
         ProcessorNode::KIND..=CacheNode::KIND => of_pptt(table, byte),
@@ -229,6 +236,7 @@ pub fn kind_of(table: Table, byte: u8) -> Named
 pub enum Refusal {
     NoHead,
     BadKind,
+    Retired,
     Cut,
     Misplaced,
     BadField,
@@ -237,6 +245,18 @@ pub enum Refusal {
     FullNode,
     TooLong,
     Incomplete,
+}
+
+impl Named {
+    // Why a byte names no kind.
+    fn refusal(self) -> Refusal
+        ensures { λ r. ⌜ number r ≡ pick (isRetired self) 12 2 ⌝ }
+    {
+        if let Named::Retired = self {
+            return Refusal::Retired;
+        }
+        Refusal::BadKind
+    }
 }
 
 // The table that a recipe gives and its length, or a refusal and its place.
@@ -684,7 +704,7 @@ fn walk(recipe: &[u8], table: Table, types: &mut [u64]) -> Checked
             return Checked::Refused(Refusal::Incomplete, made);
         }
         let Named::As(kind) = named else {
-            return Checked::Refused(Refusal::BadKind, at);
+            return Checked::Refused(named.refusal(), at);
         };
         let n = kind.body_len();
         let end = at + 1 + n;

@@ -1,12 +1,12 @@
 -- Two rows that meet one contract are equal: the row that a variant stands for names the variant.
 use mathlib.Core.Path.{_≡_, refl}
 use mathlib.Core.Option.{Option, none, some}
-use Rattle.format.specs.Row.{processors, caches, memories, initiators, rintcs, domains, matrices, sides, bridges, windows, xors}
+use Rattle.format.specs.Row.{processors, caches, memories, initiators, oldRintcs, domains, matrices, sides, bridges, windows, xors, rintcs}
 use Rattle.format.specs.Row as format
 use Rattle.laws.specs.Unique.{Fixes}
 use Rattle.laws.proofs.Sole.{sole, sole-meant}
 use Rattle.rows.specs.declared.Row.{Row}
-use Rattle.rows.specs.declared.Row.the-variants.{Processors, Caches, Memories, Initiators, Rintcs, Domains, Matrices, Sides, Bridges, Windows, Xors, Unknown}
+use Rattle.rows.specs.declared.Row.the-variants.{Processors, Caches, Memories, Initiators, OldRintcs, Domains, Matrices, Sides, Bridges, Windows, Xors, Rintcs, Unknown}
 use Rattle.rows.specs.Rows.{rowMeant}
 use Rattle.rows.proofs.row_of.Reads as row-of
 use Rattle.rows.proofs.known.Reads as known
@@ -19,26 +19,28 @@ rowNamed (some processors) = Processors
 rowNamed (some caches) = Caches
 rowNamed (some memories) = Memories
 rowNamed (some initiators) = Initiators
-rowNamed (some rintcs) = Rintcs
+rowNamed (some oldRintcs) = OldRintcs
 rowNamed (some domains) = Domains
 rowNamed (some matrices) = Matrices
 rowNamed (some sides) = Sides
 rowNamed (some bridges) = Bridges
 rowNamed (some windows) = Windows
 rowNamed (some xors) = Xors
+rowNamed (some rintcs) = Rintcs
 
 row-back : (r : Row) → rowNamed (rowMeant r) ≡ r
 row-back Processors = refl
 row-back Caches = refl
 row-back Memories = refl
 row-back Initiators = refl
-row-back Rintcs = refl
+row-back OldRintcs = refl
 row-back Domains = refl
 row-back Matrices = refl
 row-back Sides = refl
 row-back Bridges = refl
 row-back Windows = refl
 row-back Xors = refl
+row-back Rintcs = refl
 row-back Unknown = refl
 
 -- `row_of` and `known`

@@ -3,11 +3,11 @@ use Prim.Native.Nat.{ℕ}
 use mathlib.Core.List.{List}
 use mathlib.Core.Bool.{Bool, true, false}
 use mathlib.Core.Option.{Option, none, some}
-use Rattle.format.specs.Row.{processors, caches, memories, initiators, rintcs, domains, matrices, sides, bridges, windows, xors, formIn}
+use Rattle.format.specs.Row.{processors, caches, memories, initiators, oldRintcs, domains, matrices, sides, bridges, windows, xors, rintcs, formIn}
 use Rattle.format.specs.Row as format
 use Rattle.format.specs.Read.{sound}
 use Rattle.rows.specs.declared.Row.{Row}
-use Rattle.rows.specs.declared.Row.the-variants.{Processors, Caches, Memories, Initiators, Rintcs, Domains, Matrices, Sides, Bridges, Windows, Xors, Unknown}
+use Rattle.rows.specs.declared.Row.the-variants.{Processors, Caches, Memories, Initiators, OldRintcs, Domains, Matrices, Sides, Bridges, Windows, Xors, Rintcs, Unknown}
 
 -- the row that a variant stands for
 abbrev pub rowMeant : Row → Option format.Row
@@ -15,13 +15,14 @@ rowMeant Processors = some processors
 rowMeant Caches = some caches
 rowMeant Memories = some memories
 rowMeant Initiators = some initiators
-rowMeant Rintcs = some rintcs
+rowMeant OldRintcs = some oldRintcs
 rowMeant Domains = some domains
 rowMeant Matrices = some matrices
 rowMeant Sides = some sides
 rowMeant Bridges = some bridges
 rowMeant Windows = some windows
 rowMeant Xors = some xors
+rowMeant Rintcs = some rintcs
 rowMeant Unknown = none
 
 -- a record of the row is not at fault by itself; an unknown one never is

@@ -1,9 +1,9 @@
 // What a reader says of one record, by the record's bytes alone: its row, whether it is known, whether it is sound, and its list.
 ghost use mathlib.Core.Path.{_≡_};
-ghost use mathlib.Core.Option.{none};
+ghost use mathlib.Core.Option.{none, some};
 ghost use Rattle.format.specs.Bytes.{pick};
 ghost use Rattle.format.specs.Table.{pptt, srat, hmat, cedt};
-ghost use Rattle.format.specs.Row.{rowOf, known};
+ghost use Rattle.format.specs.Row.{oldRintcs, rintcs, column, rowOf, known};
 ghost use Rattle.format.specs.Read.{typeIn, partOf};
 ghost use Rattle.header.specs.Header.{meant};
 ghost use Rattle.rows.specs.Rows.{rowMeant, soundAs, knowsAs};
@@ -18,6 +18,7 @@ use pptt::CacheNode;
 use pptt::ProcessorNode;
 use srat::GenericInitiator;
 use srat::MemoryAffinity;
+use srat::OldRintcAffinity;
 use srat::RintcAffinity;
 
 // The layout rows, in order; Unknown where none matches, or none that the reader knows.
@@ -26,13 +27,14 @@ pub enum Row {
     Caches,
     Memories,
     Initiators,
-    Rintcs,
+    OldRintcs,
     Domains,
     Matrices,
     Sides,
     Bridges,
     Windows,
     Xors,
+    Rintcs,
     Unknown,
 }
 
@@ -46,7 +48,7 @@ impl Row {
 
     const INITIATORS_BIT: u32 = 8;
 
-    const RINTCS_BIT: u32 = 16;
+    const OLD_RINTCS_BIT: u32 = 16;
 
     const DOMAINS_BIT: u32 = 32;
 
@@ -59,6 +61,8 @@ impl Row {
     const WINDOWS_BIT: u32 = 512;
 
     const XORS_BIT: u32 = 1024;
+
+    const RINTCS_BIT: u32 = 2048;
 
     // The row, if a test says so.
     fn when(self, test: bool) -> Self
@@ -79,13 +83,14 @@ impl Row {
             Row::Caches => mask / Row::CACHES_BIT % 2 == 1,
             Row::Memories => mask / Row::MEMORIES_BIT % 2 == 1,
             Row::Initiators => mask / Row::INITIATORS_BIT % 2 == 1,
-            Row::Rintcs => mask / Row::RINTCS_BIT % 2 == 1,
+            Row::OldRintcs => mask / Row::OLD_RINTCS_BIT % 2 == 1,
             Row::Domains => mask / Row::DOMAINS_BIT % 2 == 1,
             Row::Matrices => mask / Row::MATRICES_BIT % 2 == 1,
             Row::Sides => mask / Row::SIDES_BIT % 2 == 1,
             Row::Bridges => mask / Row::BRIDGES_BIT % 2 == 1,
             Row::Windows => mask / Row::WINDOWS_BIT % 2 == 1,
             Row::Xors => mask / Row::XORS_BIT % 2 == 1,
+            Row::Rintcs => mask / Row::RINTCS_BIT % 2 == 1,
             Row::Unknown => false,
         }
     }
@@ -106,6 +111,16 @@ fn pptt_row(revision: u8, body: &[u8]) -> Row
     }
 }
 
+// Two rows have one type: the length tells them apart.
+fn rintc_row(body: &[u8]) -> Row
+    ensures { λ r. ⌜ rowMeant r ≡ pick (column oldRintcs (now (body .entry))) (some oldRintcs) (pick (column rintcs (now (body .entry))) (some rintcs) none) ⌝ }
+{
+    if body.len() == OldRintcAffinity::LEN {
+        return Row::OldRintcs;
+    }
+    Row::Rintcs.when(body.len() == RintcAffinity::LEN)
+}
+
 fn srat_row(revision: u8, body: &[u8]) -> Row
     ensures { λ r. ⌜ rowMeant r ≡ rowOf srat revision (typeIn srat (now (body .entry))) (now (body .entry)) ⌝ }
 {
@@ -115,7 +130,7 @@ fn srat_row(revision: u8, body: &[u8]) -> Row
     match frames::short_type(body) {
         MemoryAffinity::TYPE => Row::Memories.when(body.len() == MemoryAffinity::LEN),
         GenericInitiator::TYPE => Row::Initiators.when(body.len() == GenericInitiator::LEN),
-        RintcAffinity::TYPE => Row::Rintcs.when(body.len() == RintcAffinity::LEN),
+        RintcAffinity::TYPE => rintc_row(body),
         _ => Row::Unknown,
     }
 }
@@ -178,13 +193,14 @@ pub fn sound(row: Row, body: &[u8]) -> bool
         Row::Caches => CacheNode::is_sound(body),
         Row::Memories => MemoryAffinity::is_sound(body),
         Row::Initiators => GenericInitiator::is_sound(body),
-        Row::Rintcs => RintcAffinity::is_sound(body),
+        Row::OldRintcs => OldRintcAffinity::is_sound(body),
         Row::Domains => MemoryProximityDomain::is_fixed(body),
         Row::Matrices => SystemLocality::is_sound(body),
         Row::Sides => MemorySideCache::is_sound(body),
         Row::Bridges => CxlHostBridge::is_sound(body),
         Row::Windows => CxlFixedMemory::is_sound(body),
         Row::Xors => XorInterleaveMath::is_sound(body),
+        Row::Rintcs => RintcAffinity::is_sound(body),
         Row::Unknown => true,
     }
 }
@@ -202,9 +218,10 @@ pub fn part<'a>(row: Row, body: &'a [u8]) -> &'a [u8]
         Row::Caches => &body[..0],
         Row::Memories => &body[..0],
         Row::Initiators => &body[..0],
-        Row::Rintcs => &body[..0],
+        Row::OldRintcs => &body[..0],
         Row::Domains => &body[..0],
         Row::Bridges => &body[..0],
+        Row::Rintcs => &body[..0],
         Row::Unknown => body,
     }
 }

@@ -40,4 +40,5 @@ fn main() {
     argument(12);
     argument(13);
     argument(14);
+    argument(15);
 }

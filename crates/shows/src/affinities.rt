@@ -3,6 +3,7 @@ use crate::words;
 use srat::GenericInitiator;
 use srat::Handle;
 use srat::MemoryAffinity;
+use srat::OldRintcAffinity;
 use srat::RintcAffinity;
 
 // A range of memory: addresses are read in hexadecimal, its length both ways.
@@ -85,9 +86,21 @@ pub fn initiator(n: GenericInitiator) {
 // An interrupt controller of a RISC-V hart.
 pub fn rintc(n: RintcAffinity) {
     words::say(b"RINTC\n");
-    words::line(b"processor uid", n.acpi_processor_uid as u64);
-    words::flags(n.flags as u64);
-    words::bit(n.flags, RintcAffinity::ENABLED, b"enabled", false);
+    words::line(b"domain", n.proximity_domain as u64);
+    hart(n.acpi_processor_uid, n.flags, n.clock_domain);
+}
+
+// The same as it was before it had a domain.
+pub fn old_rintc(n: OldRintcAffinity) {
+    words::say(b"RINTC without domain\n");
+    hart(n.acpi_processor_uid, n.flags, n.clock_domain);
+}
+
+// What both say of a hart.
+fn hart(uid: u32, flags: u32, clock_domain: u32) {
+    words::line(b"processor uid", uid as u64);
+    words::flags(flags as u64);
+    words::bit(flags, RintcAffinity::ENABLED, b"enabled", false);
     words::end();
-    words::line(b"clock domain", n.clock_domain as u64);
+    words::line(b"clock domain", clock_domain as u64);
 }

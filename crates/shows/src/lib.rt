@@ -62,13 +62,14 @@ fn fields(table: &[u8], place: usize, node: Node) {
         Node::Cache(n) => nodes::cache(table, n),
         Node::Memory(n) => affinities::memory(n),
         Node::Initiator(n) => affinities::initiator(n),
-        Node::Rintc(n) => affinities::rintc(n),
+        Node::OldRintc(n) => affinities::old_rintc(n),
         Node::Domain(n) => localities::domain(n),
         Node::Matrix(n) => localities::matrix(table, place, n),
         Node::Side(n) => localities::side(table, place, n),
         Node::Bridge(n) => windows::bridge(n),
         Node::Window(n) => windows::window(table, place, n),
         Node::Xor(n) => windows::maths(table, place, n),
+        Node::Rintc(n) => affinities::rintc(n),
         Node::Unknown => unknown(read::part_at(table, EVERY, place)),
     }
 }

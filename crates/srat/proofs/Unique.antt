@@ -13,7 +13,8 @@ use Rattle.srat.specs.declared.Handle.the-variants.{Acpi, Pci}
 use Rattle.srat.specs.declared.MemoryAffinity.{MemoryAffinity}
 use Rattle.srat.specs.declared.GenericInitiator.{GenericInitiator}
 use Rattle.srat.specs.declared.RintcAffinity.{RintcAffinity}
-use Rattle.srat.specs.Srat.{handleValues, memoryNode, initiatorNode, rintcNode}
+use Rattle.srat.specs.declared.OldRintcAffinity.{OldRintcAffinity}
+use Rattle.srat.specs.Srat.{handleValues, memoryNode, initiatorNode, rintcNode, oldRintcNode}
 use Rattle.srat.proofs.MemoryAffinity.new.Reads as MemoryAffinity-new
 use Rattle.srat.proofs.MemoryAffinity.enabled.Reads as MemoryAffinity-enabled
 use Rattle.srat.proofs.MemoryAffinity.hotpluggable.Reads as MemoryAffinity-hotpluggable
@@ -51,6 +52,9 @@ use Rattle.srat.proofs.RintcAffinity.put_body.Reads as RintcAffinity-pu
 use Rattle.srat.proofs.RintcAffinity.put_fields.Reads as RintcAffinity-put-fields
 use Rattle.srat.proofs.RintcAffinity.bad_field.Reads as RintcAffinity-bad-field
 use Rattle.srat.proofs.RintcAffinity.is_sound.Reads as RintcAffinity-is-sound
+use Rattle.srat.proofs.OldRintcAffinity.get.Reads as OldRintcAffinity-get
+use Rattle.srat.proofs.OldRintcAffinity.put_fields.Reads as OldRintcAffinity-put-fields
+use Rattle.srat.proofs.OldRintcAffinity.is_sound.Reads as OldRintcAffinity-is-sound
 
 abbrev memoryIn : Node → MemoryAffinity
 memoryIn n = record { «proximity_domain» = at (n .values) 0; «base_address» = at (n .values) 1; length = at (n .values) 2; flags = at (n .values) 3 }
@@ -60,11 +64,18 @@ one-memory : (a b : MemoryAffinity) (n : Node) → memoryNode a ≡ n → memory
 one-memory = sole-meant memoryNode memoryIn (λ m. refl)
 
 abbrev rintcIn : Node → RintcAffinity
-rintcIn n = record { «acpi_processor_uid» = at (n .values) 0; flags = at (n .values) 1; «clock_domain» = at (n .values) 2 }
+rintcIn n = record { «proximity_domain» = at (n .values) 0; «acpi_processor_uid» = at (n .values) 1; flags = at (n .values) 2; «clock_domain» = at (n .values) 3 }
 
 -- `RintcAffinity::get`
 one-rintc : (a b : RintcAffinity) (n : Node) → rintcNode a ≡ n → rintcNode b ≡ n → a ≡ b
 one-rintc = sole-meant rintcNode rintcIn (λ r. refl)
+
+abbrev oldRintcIn : Node → OldRintcAffinity
+oldRintcIn n = record { «acpi_processor_uid» = at (n .values) 0; flags = at (n .values) 1; «clock_domain» = at (n .values) 2 }
+
+-- `OldRintcAffinity::get`
+one-old-rintc : (a b : OldRintcAffinity) (n : Node) → oldRintcNode a ≡ n → oldRintcNode b ≡ n → a ≡ b
+one-old-rintc = sole-meant oldRintcNode oldRintcIn (λ r. refl)
 
 -- four values have an ACPI handle among them, six a PCI handle
 abbrev initiatorOf : List ℕ → GenericInitiator
@@ -122,6 +133,9 @@ pub record Unique : Type 0 where
   RintcAffinity-put-fields : Fixes RintcAffinity-put-fields.Learnt (λ k x p. p .1 .0 .now)
   RintcAffinity-bad-field : Fixes RintcAffinity-bad-field.Learnt (λ k x p. x)
   RintcAffinity-is-sound : Fixes RintcAffinity-is-sound.Learnt (λ k x p. x)
+  OldRintcAffinity-get : Fixes OldRintcAffinity-get.Learnt (λ k x p. x)
+  OldRintcAffinity-put-fields : Fixes OldRintcAffinity-put-fields.Learnt (λ k x p. p .1 .0 .now)
+  OldRintcAffinity-is-sound : Fixes OldRintcAffinity-is-sound.Learnt (λ k x p. x)
 
 pub unique : Unique
 unique =
@@ -163,4 +177,7 @@ unique =
       RintcAffinity-put-fields = λ k a x y p q. sole;
       RintcAffinity-bad-field = λ k a x y p q. sole;
       RintcAffinity-is-sound = λ k a x y p q. sole;
+      OldRintcAffinity-get = λ k a x y p q. one-old-rintc x y _;
+      OldRintcAffinity-put-fields = λ k a x y p q. sole;
+      OldRintcAffinity-is-sound = λ k a x y p q. sole;
     }

@@ -5,13 +5,14 @@ use mathlib.Core.Bool.{Bool, false}
 use lib.Bits.{bitOr}
 use lib.Dec.{eqb}
 use Rattle.format.specs.Bytes.{pick, value, part}
-use Rattle.format.specs.Form.{Form, memory, acpi, pci, rintc}
+use Rattle.format.specs.Form.{Form, memory, acpi, pci, rintc, oldRintc}
 use Rattle.format.specs.Node.{Node, node}
 use Rattle.srat.specs.declared.Handle.{Handle}
 use Rattle.srat.specs.declared.Handle.the-variants.{Acpi, Pci}
 use Rattle.srat.specs.declared.MemoryAffinity.{MemoryAffinity}
 use Rattle.srat.specs.declared.GenericInitiator.{GenericInitiator}
 use Rattle.srat.specs.declared.RintcAffinity.{RintcAffinity}
+use Rattle.srat.specs.declared.OldRintcAffinity.{OldRintcAffinity}
 
 -- ---- handles
 
@@ -46,9 +47,13 @@ memoryNode m = node memory (m .«proximity_domain» ∷ m .«base_address» ∷ 
 abbrev pub initiatorNode : GenericInitiator → Node
 initiatorNode i = node (handleForm (i .handle)) (i .«proximity_domain» ∷ (handleValues (i .handle) ++ (i .flags ∷ [])))
 
--- uid, flags, clock domain
+-- domain, uid, flags, clock domain
 abbrev pub rintcNode : RintcAffinity → Node
-rintcNode r = node rintc (r .«acpi_processor_uid» ∷ r .flags ∷ r .«clock_domain» ∷ [])
+rintcNode r = node rintc (r .«proximity_domain» ∷ r .«acpi_processor_uid» ∷ r .flags ∷ r .«clock_domain» ∷ [])
+
+-- uid, flags, clock domain
+abbrev pub oldRintcNode : OldRintcAffinity → Node
+oldRintcNode r = node oldRintc (r .«acpi_processor_uid» ∷ r .flags ∷ r .«clock_domain» ∷ [])
 
 -- ---- values as a reading call shows them
 
@@ -60,9 +65,13 @@ memoryShown m = m .«proximity_domain» ∷ m .«base_address» ∷ m .length �
 abbrev pub initiatorShown : GenericInitiator → List ℕ
 initiatorShown i = handleType (i .handle) ∷ i .«proximity_domain» ∷ (handleValues (i .handle) ++ (i .flags ∷ []))
 
--- row 4: uid, flags, clock domain
+-- row 11: domain, uid, flags, clock domain
 abbrev pub rintcShown : RintcAffinity → List ℕ
-rintcShown r = r .«acpi_processor_uid» ∷ r .flags ∷ r .«clock_domain» ∷ []
+rintcShown r = r .«proximity_domain» ∷ r .«acpi_processor_uid» ∷ r .flags ∷ r .«clock_domain» ∷ []
+
+-- row 4: uid, flags, clock domain
+abbrev pub oldRintcShown : OldRintcAffinity → List ℕ
+oldRintcShown r = r .«acpi_processor_uid» ∷ r .flags ∷ r .«clock_domain» ∷ []
 
 -- ---- constructors and setters
 
@@ -84,9 +93,10 @@ abbrev pub initiatorWith : ℕ → GenericInitiator → GenericInitiator
 initiatorWith k i = record { «proximity_domain» = i .«proximity_domain»; handle = i .handle; flags = bitOr (i .flags) (2 ^ k) }
 
 -- an interrupt controller with no flag set
-abbrev pub rintcOf : ℕ → ℕ → RintcAffinity
-rintcOf uid clock = record { «acpi_processor_uid» = uid; flags = 0; «clock_domain» = clock }
+abbrev pub rintcOf : ℕ → ℕ → ℕ → RintcAffinity
+rintcOf domain uid clock = record { «proximity_domain» = domain; «acpi_processor_uid» = uid; flags = 0; «clock_domain» = clock }
 
 -- the same interrupt controller with flag bit k set
 abbrev pub rintcWith : ℕ → RintcAffinity → RintcAffinity
-rintcWith k r = record { «acpi_processor_uid» = r .«acpi_processor_uid»; flags = bitOr (r .flags) (2 ^ k); «clock_domain» = r .«clock_domain» }
+rintcWith k r =
+    record { «proximity_domain» = r .«proximity_domain»; «acpi_processor_uid» = r .«acpi_processor_uid»; flags = bitOr (r .flags) (2 ^ k); «clock_domain» = r .«clock_domain» }

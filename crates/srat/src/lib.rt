@@ -7,14 +7,14 @@ ghost use lib.ListN.{length, drop};
 ghost use lib.Dec.{eqb, leb};
 ghost use Rattle.format.specs.Bytes.{pick, value, part, over};
 ghost use Rattle.format.specs.Layout.{two, number, asIs, fields, fixedOk};
-ghost use Rattle.format.specs.Form.{memory, acpi, pci, rintc, size, layout};
+ghost use Rattle.format.specs.Form.{memory, acpi, pci, rintc, oldRintc, size, layout};
 ghost use Rattle.format.specs.Node.{node, bytes, nodeAt};
 ghost use Rattle.format.specs.Kind.{Memory, Acpi, Pci, Rintc, body};
 ghost use Rattle.format.specs.Normal.{callsOfNode};
 ghost use Rattle.format.specs.Field.{badField};
 ghost use Rattle.format.specs.Row.{initiators, formIn};
 ghost use Rattle.format.specs.Read.{sound};
-ghost use Rattle.srat.specs.Srat.{handleFixed, memoryNode, initiatorNode, rintcNode, memoryShown, initiatorShown, rintcShown, memoryOf, memoryWith, initiatorOf, initiatorWith, rintcOf, rintcWith};
+ghost use Rattle.srat.specs.Srat.{handleFixed, memoryNode, initiatorNode, rintcNode, oldRintcNode, memoryShown, initiatorShown, rintcShown, oldRintcShown, memoryOf, memoryWith, initiatorOf, initiatorWith, rintcOf, rintcWith};
 
 pub struct MemoryAffinity {
     pub proximity_domain: u32,
@@ -670,6 +670,7 @@ impl GenericInitiator {
 }
 
 pub struct RintcAffinity {
+    pub proximity_domain: u32,
     pub acpi_processor_uid: u32,
     pub flags: u32,
     pub clock_domain: u32,
@@ -677,16 +678,16 @@ pub struct RintcAffinity {
 
 impl RintcAffinity {
     // The kind byte, and the length of the body behind it.
-    pub const KIND: u8 = 35;
+    pub const KIND: u8 = 36;
 
-    pub const BODY: usize = 9;
+    pub const BODY: usize = 13;
 
     pub const TYPE: u8 = 7;
 
-    pub const LEN: usize = 16;
+    pub const LEN: usize = 20;
 
     // How many values a reading call shows.
-    pub const FIELDS: usize = 3;
+    pub const FIELDS: usize = 4;
 
     pub const ENABLED: u32 = 1;
 
@@ -694,22 +695,25 @@ impl RintcAffinity {
     const FLAGS: u32 = 1;
 
     // Where the fields stand in a body.
-    pub const UID_AT: usize = 0;
+    pub const DOMAIN_AT: usize = 0;
 
-    pub const FLAGS_AT: usize = 4;
+    pub const UID_AT: usize = 4;
 
-    pub const CLOCK_DOMAIN_AT: usize = 5;
+    pub const FLAGS_AT: usize = 8;
 
-    // Kind, uid, flags, clock domain.
-    const BODY_WIDTHS: [usize; 4] = [1, 4, 1, 4];
+    pub const CLOCK_DOMAIN_AT: usize = 9;
 
-    // Type, length, 2 zero, uid, flags, clock domain.
-    const WIDTHS: [usize; 6] = [1, 1, 2, 4, 4, 4];
+    // Kind, domain, uid, flags, clock domain.
+    const BODY_WIDTHS: [usize; 5] = [1, 4, 4, 1, 4];
 
-    pub fn new(acpi_processor_uid: u32, clock_domain: u32) -> Self
-        ensures { λ r. ⌜ r ≡ rintcOf «acpi_processor_uid» «clock_domain» ⌝ }
+    // Type, length, 2 zero, domain, uid, flags, clock domain.
+    const WIDTHS: [usize; 7] = [1, 1, 2, 4, 4, 4, 4];
+
+    pub fn new(proximity_domain: u32, acpi_processor_uid: u32, clock_domain: u32) -> Self
+        ensures { λ r. ⌜ r ≡ rintcOf «proximity_domain» «acpi_processor_uid» «clock_domain» ⌝ }
     {
         Self {
+            proximity_domain,
             acpi_processor_uid,
             flags: 0,
             clock_domain,
@@ -737,6 +741,7 @@ impl RintcAffinity {
             Self::TYPE as u64,
             Self::LEN as u64,
             0,
+            self.proximity_domain as u64,
             self.acpi_processor_uid as u64,
             self.flags as u64,
             self.clock_domain as u64,
@@ -750,9 +755,10 @@ impl RintcAffinity {
     {
         let s = field::rest(table, at);
         Self {
-            acpi_processor_uid: field::get_u32(s, 4),
-            flags: field::get_u32(s, 8),
-            clock_domain: field::get_u32(s, 12),
+            proximity_domain: field::get_u32(s, 4),
+            acpi_processor_uid: field::get_u32(s, 8),
+            flags: field::get_u32(s, 12),
+            clock_domain: field::get_u32(s, 16),
         }
     }
 
@@ -774,6 +780,7 @@ impl RintcAffinity {
         ensures { λ r. ⌜ rintcNode r ≡ node rintc (fields (body Rintc) (now (bytes .entry))) ⌝ }
     {
         Self {
+            proximity_domain: field::get_u32(bytes, Self::DOMAIN_AT),
             acpi_processor_uid: field::get_u32(bytes, Self::UID_AT),
             flags: field::get_u8(bytes, Self::FLAGS_AT) as u32,
             clock_domain: field::get_u32(bytes, Self::CLOCK_DOMAIN_AT),
@@ -787,6 +794,7 @@ impl RintcAffinity {
     {
         let vs = [
             Self::KIND as u64,
+            self.proximity_domain as u64,
             self.acpi_processor_uid as u64,
             self.flags as u64,
             self.clock_domain as u64,
@@ -800,6 +808,7 @@ impl RintcAffinity {
         ensures { λ _. ⌜ now (answer .exit) ≡ over (now (answer .entry)) at (rintcShown self) ⌝ }
     {
         let vs = [
+            self.proximity_domain as u64,
             self.acpi_processor_uid as u64,
             self.flags as u64,
             self.clock_domain as u64,
@@ -825,5 +834,74 @@ impl RintcAffinity {
             return false;
         }
         Self::get(row, 0).bad_field() == 0
+    }
+}
+
+// The record without its domain, as it was before ACPI gave it one: it is read, but neither built nor read out.
+pub struct OldRintcAffinity {
+    pub acpi_processor_uid: u32,
+    pub flags: u32,
+    pub clock_domain: u32,
+}
+
+impl OldRintcAffinity {
+    // The kind byte that named it, which is retired.
+    pub const KIND: u8 = 35;
+
+    pub const TYPE: u8 = RintcAffinity::TYPE;
+
+    pub const LEN: usize = 16;
+
+    // How many values a reading call shows.
+    pub const FIELDS: usize = 3;
+
+    // All flags.
+    const FLAGS: u32 = RintcAffinity::FLAGS;
+
+    // Reads the record at a place.
+    pub fn get(table: &[u8], at: usize) -> Self
+        ensures { λ r. ⌜ oldRintcNode r ≡ nodeAt asIs oldRintc (drop at (now (table .entry))) ⌝ }
+    {
+        let s = field::rest(table, at);
+        Self {
+            acpi_processor_uid: field::get_u32(s, 4),
+            flags: field::get_u32(s, 8),
+            clock_domain: field::get_u32(s, 12),
+        }
+    }
+
+    // Writes the values that a reading call shows, in their order.
+    pub fn put_fields(self, answer: &mut [u64], at: usize)
+        ensures { λ _. ⌜ now (answer .exit) ≡ over (now (answer .entry)) at (oldRintcShown self) ⌝ }
+    {
+        let vs = [
+            self.acpi_processor_uid as u64,
+            self.flags as u64,
+            self.clock_domain as u64,
+        ];
+        field::copy_u64(answer, at, &vs);
+    }
+
+    // Zeros and fixed values of a record.
+    fn is_fixed(row: &[u8]) -> bool
+        ensures { λ r. ⌜ r ≡ fixedOk (layout oldRintc) (now (row .entry)) ⌝ }
+    {
+        if field::get_u8(row, 0) != Self::TYPE {
+            return false;
+        }
+        if field::get_u8(row, 1) as usize != Self::LEN {
+            return false;
+        }
+        field::get_u16(row, 2) == 0
+    }
+
+    // Whether a record is fixed where it has to be, and no field outside its range.
+    pub fn is_sound(row: &[u8]) -> bool
+        ensures { λ r. ⌜ r ≡ sound oldRintc (now (row .entry)) ⌝ }
+    {
+        if !Self::is_fixed(row) {
+            return false;
+        }
+        field::get_u32(row, 8) <= Self::FLAGS
     }
 }

@@ -147,6 +147,18 @@ fn initiator(domain: u32, handle: Handle, flags: u64) -> GenericInitiator {
     node
 }
 
+/// acpi_tables' record has no domain: what it makes of a RINTC lacks the recipe's.
+#[cfg(not(feature = "domain"))]
+fn rintc(_domain: u32, uid: [u8; 4], clock: u32) -> RintcAffinity {
+    RintcAffinity::new(uid, clock)
+}
+
+/// Over rust/, whose record has one (tests/rust).
+#[cfg(feature = "domain")]
+fn rintc(domain: u32, uid: [u8; 4], clock: u32) -> RintcAffinity {
+    RintcAffinity::new(domain, uid, clock)
+}
+
 fn build_srat(r: &mut Records, id: [u8; 6], table: [u8; 8], revision: u32, sink: &mut Vec<u8>) {
     let mut out = SRAT::new(id, table, revision);
     while let Some(kind) = r.kind() {
@@ -180,8 +192,9 @@ fn build_srat(r: &mut Records, id: [u8; 6], table: [u8; 8], revision: u32, sink:
                 out.add_generic_initiator(initiator(domain, handle, flags));
             }
             _ => {
+                let domain = r.number(4) as u32;
                 let (uid, flags, clock) = (r.array(), r.number(1), r.number(4) as u32);
-                let node = RintcAffinity::new(uid, clock);
+                let node = rintc(domain, uid, clock);
                 out.add_rintc_affinity(if flags & 1 != 0 { node.enabled() } else { node });
             }
         }

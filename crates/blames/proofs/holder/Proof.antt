@@ -8,7 +8,7 @@ use lib.ListN.{length, drop}
 use Rattle.format.specs.Recipe.{cut}
 use Rattle.header.specs.Header.{meant}
 use Rattle.recipe.specs.Kinds.{meantKind, named}
-use Rattle.recipe.proofs.Numbers.{body-short}
+use Rattle.recipe.proofs.Numbers.{no-kind, body-short}
 use Rattle.blames.specs.Words.{holder}
 use Rattle.blames.proofs.Records.{holder-end, holder-unknown, holder-next}
 use Rattle.blames.proofs.holder.Statement.{statement}
@@ -22,9 +22,9 @@ abbrev μ-loop : tie.MeasureT-loop
 
 returns : tie.Need-returns Inv-loop μ-loop
 returns c =
-    let m = c .before .before in
+    let m = c .before in
     let i = m .before .before in
-    let e = sym (m .kind-of .ensures) ∙ ap named (c .enum-told .given .1) in
+    let e = sym (m .kind-of .ensures .0) ∙ no-kind (m .kind-of .result) (c .match .keys2) in
     sym (holder-unknown _ _ _ _ (i .loop-test .taken) e) ∙ i .before .loop .inv
 
 add-end-2 : tie.Need-add-end-2 Inv-loop μ-loop
@@ -36,7 +36,7 @@ returns-2 c =
     let k = n .before .before in
     let m = k .before .before in
     let i = m .before .before in
-    let e = sym (m .kind-of .ensures) ∙ ap named (k .kind .given .1) in
+    let e = sym (m .kind-of .ensures .0) ∙ ap named (k .kind .given .1) in
     sym (holder-next _ _ _ _ (i .loop-test .taken) _ e ∙ rw (lt-ltb _ _ (rw (n .body-len .ensures) at (c .if1 .taken)))) ∙ i .before .loop .inv
 
 loop-less : tie.Need-loop-less Inv-loop μ-loop
@@ -50,7 +50,7 @@ loop-again c =
     let k = n .before .before in
     let m = k .before .before in
     let i = m .before .before in
-    let e = sym (m .kind-of .ensures) ∙ ap named (k .kind .given .1) in
+    let e = sym (m .kind-of .ensures .0) ∙ ap named (k .kind .given .1) in
     let q = n .body-len .ensures in
     rw q (sym (holder-next _ _ _ _ (i .loop-test .taken) _ e ∙ rw (le-ltb _ _ (rw q at (c .if1 .left)))) ∙ i .before .loop .inv)
 
@@ -66,7 +66,6 @@ holder-spec =
     (λ c. refl)
     (λ c. search needs)
     (λ c κs. search needs)
-    (λ c. search needs)
     (λ c. search needs)
     returns
     (λ c. search needs)

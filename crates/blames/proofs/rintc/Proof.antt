@@ -8,17 +8,19 @@ use Rattle.blames.proofs.rintc.Statement.{statement}
 use Rattle.blames.proofs.rintc.Tie as tie
 
 -- no field
-other : tie.Need-returns-4
+other : tie.Need-returns-5
 unfolding fieldOf ofThe nameAt fieldNames recordName body
 other c =
     let o = c .before .before .match .rest in
-    c .nothing .ensures ∙ rw (ne-eqb _ 0 (o .0 .0 .1), ne-eqb _ 4 (o .0 .1), ne-eqb _ 5 (o .1))
+    c .nothing .ensures ∙ rw (ne-eqb _ 0 (o .0 .0 .0 .1), ne-eqb _ 4 (o .0 .0 .1), ne-eqb _ 8 (o .0 .1), ne-eqb _ 9 (o .1))
 
 pub rintc-spec : {M : Type 1} → statement M
 unfolding fieldOf ofThe nameAt fieldNames recordName body
 rintc-spec =
     tie.close
     (tie.spec
+    (λ c. search needs)
+    (λ c κs. search needs)
     (λ c. search needs)
     (λ c κs. search needs)
     (λ c. search needs)
@@ -32,5 +34,7 @@ rintc-spec =
     (λ c. c .before .before .bytes2 .ensures ∙ rw (c .before .before .before .before .before .match .keys2))
     (λ c. search needs)
     (λ c. c .before .before .bytes3 .ensures ∙ rw (c .before .before .before .before .before .match .keys3))
+    (λ c. search needs)
+    (λ c. c .before .before .bytes4 .ensures ∙ rw (c .before .before .before .before .before .match .keys4))
     (λ c. search needs)
     other)

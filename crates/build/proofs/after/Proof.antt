@@ -63,7 +63,7 @@ with-more-requires-7 : tie.Need-with-more-requires-7
 unfolding changeOf
 with-more-requires-7 c κs =
     let b = c .before .before .before in
-    let n = more-is (meantKind (b .args .kind)) Rintc (b .args .change) 16 (ap meantKind (c .enum-told7 .given .1)) (b .pre .0) (λ s vs. refl) in
+    let n = more-is (meantKind (b .args .kind)) Rintc (b .args .change) 20 (ap meantKind (c .enum-told7 .given .1)) (b .pre .0) (λ s vs. refl) in
     omega (arith, n, b .pre .2)
 
 with-more-requires-8 : tie.Need-with-more-requires-8
@@ -203,8 +203,8 @@ unfolding changeOf
 returns-7 c =
     let b = c .before .before .before .before in
     let l = len-is (meantKind (b .args .kind)) Rintc (b .args .change) 0 (ap meantKind (c .before .enum-told7 .given .1)) (b .pre .0) (λ s vs. refl) in
-    let n = more-is (meantKind (b .args .kind)) Rintc (b .args .change) 16 (ap meantKind (c .before .enum-told7 .given .1)) (b .pre .0) (λ s vs. refl) in
-    made-after (b .args .sum .value) (b .args .out .now) (b .args .change .from) (b .args .change .len) (b .args .end) (b .args .change .more) 16 (c .with-more7 .result .value) l n (c .with-more7 .ensures)
+    let n = more-is (meantKind (b .args .kind)) Rintc (b .args .change) 20 (ap meantKind (c .before .enum-told7 .given .1)) (b .pre .0) (λ s vs. refl) in
+    made-after (b .args .sum .value) (b .args .out .now) (b .args .change .from) (b .args .change .len) (b .args .end) (b .args .change .more) 20 (c .with-more7 .result .value) l n (c .with-more7 .ensures)
 
 returns-8 : tie.Need-returns-8
 unfolding changeOf

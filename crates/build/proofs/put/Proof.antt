@@ -64,7 +64,7 @@ unfolding width body
 slice-aggregate-from-body-4 c =
     let t = c .before in
     let b = t .before .before .before .before .before in
-    window-long (meantKind (b .args .kind)) Rintc (b .args .bytes .now) 9 (ap meantKind (t .enum-told7 .given .1)) (omega arith) (b .pre .2)
+    window-long (meantKind (b .args .kind)) Rintc (b .args .bytes .now) 13 (ap meantKind (t .enum-told7 .given .1)) (omega arith) (b .pre .2)
 
 slice-aggregate-from-body-5 : tie.Need-slice-aggregate-from-body-5
 unfolding width body
@@ -208,7 +208,7 @@ returns-7 c =
     let e = d .before .before in
     let t = e .before .before in
     let bs = t .before .before .before .before .before .args .bytes .now in
-    rw (t .enum-told7 .given .1) (d .put6 .ensures ∙ plain-appended rintc _ _ _ _ (node-window Rintc rintc bs 9 _ (omega arith) (e .from-body4 .ensures)) tt)
+    rw (t .enum-told7 .given .1) (d .put6 .ensures ∙ plain-appended rintc _ _ _ _ (node-window Rintc rintc bs 13 _ (omega arith) (e .from-body4 .ensures)) tt)
 
 returns-8 : tie.Need-returns-8
 unfolding wrote layout width body

@@ -8,17 +8,18 @@ use lib.ListN.{getD}
 use Rattle.format.specs.Kind.{kindOf}
 use Rattle.header.specs.Header.{meant}
 use Rattle.recipe.specs.Kinds.{meantKind, named, ordinalIn}
+use Rattle.recipe.proofs.Numbers.{no-kind}
 use Rattle.build.proofs.Steps.{small, whole, leads-there, in-limit, changing, coming, long-enough, stepped, unknown}
 use Rattle.build.proofs.step.Statement.{statement}
 use Rattle.build.proofs.step.Tie as tie
 
 returns : tie.Need-returns
 returns c =
-    let b = c .before .before .before .before .before .before .before in
+    let b = c .before .before .before .before .before .before in
     let a = b .args in
     let r = a .recipe .now in
     let t = meant (a .table) in
-    let e : kindOf t (getD r (a .s .at) 0) ≡ none = sym (c .before .before .kind-of .ensures) ∙ ap named (c .enum-told .given .1) in
+    let e : kindOf t (getD r (a .s .at) 0) ≡ none = sym (c .before .kind-of .ensures .0) ∙ no-kind (c .before .kind-of .result) (c .match .keys2) in
     unknown r t (a .s) (a .out .now) (a .marks .now) (b .pre .1) (b .pre .0) e
 
 add-next : tie.Need-add-next
@@ -31,7 +32,7 @@ add-next c =
     let y = b .pre .1 in
     let kind = c .before .before .kind .given in
     let k = meantKind (kind .0 .0) in
-    let e : kindOf t (getD r (a .s .at) 0) ≡ some k = sym (c .before .before .before .before .kind-of .ensures) ∙ ap named (kind .1) in
+    let e : kindOf t (getD r (a .s .at) 0) ≡ some k = sym (c .before .before .before .before .kind-of .ensures .0) ∙ ap named (kind .1) in
     let l = whole (y .start) r t (y .meant) (a .s) (a .out .now) ms (y .holds) k (b .pre .0) e in
     omega (arith, c .body-len .ensures)
 
@@ -50,7 +51,7 @@ add-end c =
     let y = b .pre .1 in
     let kind = c .before .before .before .before .before .before .kind .given in
     let k = meantKind (kind .0 .0) in
-    let e : kindOf t (getD r (a .s .at) 0) ≡ some k = sym (c .before .before .before .before .before .before .before .before .kind-of .ensures) ∙ ap named (kind .1) in
+    let e : kindOf t (getD r (a .s .at) 0) ≡ some k = sym (c .before .before .before .before .before .before .before .before .kind-of .ensures .0) ∙ ap named (kind .1) in
     let rest = c .before .before .before .rest in
     let change = c .before .before .change-of in
     let l = in-limit (y .start) r t (y .meant) (a .s) (a .out .now) ms (y .holds) k (b .pre .0) e (rest .result .now) (change .result) (rest .ensures) (change .ensures) in
@@ -66,7 +67,7 @@ before-requires c κs =
     let y = b .pre .1 in
     let kind = c .before .before .before .before .before .before .before .kind .given in
     let k = meantKind (kind .0 .0) in
-    let e : kindOf t (getD r (a .s .at) 0) ≡ some k = sym (c .before .before .before .before .before .before .before .before .before .kind-of .ensures) ∙ ap named (kind .1) in
+    let e : kindOf t (getD r (a .s .at) 0) ≡ some k = sym (c .before .before .before .before .before .before .before .before .before .kind-of .ensures .0) ∙ ap named (kind .1) in
     let rest = c .before .before .before .before .rest in
     let change = c .before .before .before .change-of in
     ((a .s, _, change .ensures), changing (y .start) r t (y .meant) (a .s) (a .out .now) ms (y .holds) k (b .pre .0) e (rest .result .now) (change .result) (rest .ensures) (change .ensures))
@@ -81,7 +82,7 @@ look-for-requires c κs =
     let y = b .pre .1 in
     let kind = c .before .before .before .before .before .before .before .before .before .before .kind .given in
     let k = meantKind (kind .0 .0) in
-    let e : kindOf t (getD r (a .s .at) 0) ≡ some k = sym (c .before .before .before .before .before .before .before .before .before .before .before .before .kind-of .ensures) ∙ ap named (kind .1) in
+    let e : kindOf t (getD r (a .s .at) 0) ≡ some k = sym (c .before .before .before .before .before .before .before .before .before .before .before .before .kind-of .ensures .0) ∙ ap named (kind .1) in
     let rest = c .before .before .before .before .before .before .before .rest in
     let change = c .before .before .before .before .before .before .change-of in
     λ z. leads-there (y .start) r t (y .meant) (a .s) (a .out .now) ms (y .holds) k (b .pre .0) e (rest .result .now) (change .result) (rest .ensures) (change .ensures) (λ w. z (ap ordinalIn (c .refers .ensures) ∙ w))
@@ -96,7 +97,7 @@ put-requires c κs =
     let y = b .pre .1 in
     let kind = c .before .before .before .before .before .before .before .before .before .before .before .before .kind .given in
     let k = meantKind (kind .0 .0) in
-    let e : kindOf t (getD r (a .s .at) 0) ≡ some k = sym (c .before .before .before .before .before .before .before .before .before .before .before .before .before .before .kind-of .ensures) ∙ ap named (kind .1) in
+    let e : kindOf t (getD r (a .s .at) 0) ≡ some k = sym (c .before .before .before .before .before .before .before .before .before .before .before .before .before .before .kind-of .ensures .0) ∙ ap named (kind .1) in
     let rest = c .before .before .before .before .before .before .before .before .before .rest in
     let change = c .before .before .before .before .before .before .before .before .change-of in (
       small r t (a .s) (a .out .now) ms y,
@@ -116,7 +117,7 @@ after-requires c κs =
     let y = b .pre .1 in
     let kind = c .before .before .before .before .before .before .before .before .before .before .before .before .before .before .before .before .kind .given in
     let k = meantKind (kind .0 .0) in
-    let e : kindOf t (getD r (a .s .at) 0) ≡ some k = sym (c .before .before .before .before .before .before .before .before .before .before .before .before .before .before .before .before .before .before .kind-of .ensures) ∙ ap named (kind .1) in
+    let e : kindOf t (getD r (a .s .at) 0) ≡ some k = sym (c .before .before .before .before .before .before .before .before .before .before .before .before .before .before .before .before .before .before .kind-of .ensures .0) ∙ ap named (kind .1) in
     let rest = c .before .before .before .before .before .before .before .before .before .before .before .before .before .rest in
     let change = c .before .before .before .before .before .before .before .before .before .before .before .before .change-of in
     let f = changing (y .start) r t (y .meant) (a .s) (a .out .now) ms (y .holds) k (b .pre .0) e (rest .result .now) (change .result) (rest .ensures) (change .ensures) in
@@ -133,7 +134,7 @@ returns-2 c =
     let y = b .pre .1 in
     let kind = c .before .before .before .before .before .before .before .before .before .before .before .before .before .before .before .before .before .before .kind .given in
     let k = meantKind (kind .0 .0) in
-    let e : kindOf t (getD r (a .s .at) 0) ≡ some k = sym (c .before .before .before .before .before .before .before .before .before .before .before .before .before .before .before .before .before .before .before .before .kind-of .ensures) ∙ ap named (kind .1) in
+    let e : kindOf t (getD r (a .s .at) 0) ≡ some k = sym (c .before .before .before .before .before .before .before .before .before .before .before .before .before .before .before .before .before .before .before .before .kind-of .ensures .0) ∙ ap named (kind .1) in
     let rest = c .before .before .before .before .before .before .before .before .before .before .before .before .before .before .before .rest in
     let change = c .before .before .before .before .before .before .before .before .before .before .before .before .before .before .change-of in
     let n = c .before .before .before .before .before .before .before .before .before .before .before .before .before .before .before .before .body-len .ensures in (
@@ -148,7 +149,6 @@ step-spec =
     (tie.spec
     (λ c. search needs)
     (λ c κs. search needs)
-    (λ c. search needs)
     (λ c. search needs)
     returns
     (λ c. search needs)

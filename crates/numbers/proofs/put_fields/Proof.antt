@@ -41,12 +41,17 @@ returns-11 : tie.Need-returns-11
 returns-11 c = rw (c .before .before .before .before .before .node11 .given .1) (c .before .before .put-fields11 .ensures)
 
 returns-12 : tie.Need-returns-12
-returns-12 c = rw (c .enum-told .given .1) (sym (over-none (c .before .before .before .args .answer .now) (c .before .before .before .args .at) [] (omega arith)))
+returns-12 c = rw (c .before .before .before .before .before .node12 .given .1) (c .before .before .put-fields12 .ensures)
+
+returns-13 : tie.Need-returns-13
+returns-13 c = rw (c .enum-told .given .1) (sym (over-none (c .before .before .before .args .answer .now) (c .before .before .before .args .at) [] (omega arith)))
 
 pub put-fields-spec : {M : Type 1} → statement M
 put-fields-spec =
     tie.close
     (tie.spec
+    (λ c. search needs)
+    (λ c κs. search needs)
     (λ c. search needs)
     (λ c κs. search needs)
     (λ c. search needs)
@@ -92,4 +97,6 @@ put-fields-spec =
     returns-10
     (λ c. search needs)
     returns-11
-    returns-12)
+    (λ c. search needs)
+    returns-12
+    returns-13)

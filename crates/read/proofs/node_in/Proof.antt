@@ -1,10 +1,10 @@
 -- `node_in` meets its contract: of each row the node that its type reads.
 use mathlib.Core.Path.{refl, _∙_}
 use borrow.Author.Needs.{needs}
-use Rattle.format.specs.Row.{caches, memories, initiators, rintcs, domains, matrices, sides, bridges, windows, xors, formIn}
+use Rattle.format.specs.Row.{caches, memories, initiators, oldRintcs, domains, matrices, sides, bridges, windows, xors, rintcs, formIn}
 use Rattle.format.specs.Read.{shown, fieldsOf}
 use Rattle.pptt.specs.Cache.{cacheNode}
-use Rattle.srat.specs.Srat.{memoryNode, initiatorNode, rintcNode}
+use Rattle.srat.specs.Srat.{memoryNode, initiatorNode, rintcNode, oldRintcNode}
 use Rattle.hmat.proofs.Shows.{shown-domain, shown-matrix, shown-side}
 use Rattle.cedt.proofs.Shows.{shown-bridge, shown-window, shown-maths}
 use Rattle.read.proofs.Fields.{node-shown, fields-shown, handle-shown}
@@ -29,7 +29,7 @@ returns-4 c =
 
 returns-5 : tie.Need-returns-5
 unfolding formIn shown
-returns-5 c = rw (c .before .enum-told5 .given .1) (refl, fields-shown rintcs _ (rintcNode (c .get4 .result)) (c .get4 .ensures))
+returns-5 c = rw (c .before .enum-told5 .given .1) (refl, fields-shown oldRintcs _ (oldRintcNode (c .get4 .result)) (c .get4 .ensures))
 
 returns-6 : tie.Need-returns-6
 unfolding formIn
@@ -51,8 +51,12 @@ returns-11 : tie.Need-returns-11
 returns-11 c = rw (c .before .enum-told11 .given .1) (refl, shown-maths (c .get10 .result) _ (c .get10 .ensures) ∙ node-shown xors _)
 
 returns-12 : tie.Need-returns-12
+unfolding formIn shown
+returns-12 c = rw (c .before .enum-told12 .given .1) (refl, fields-shown rintcs _ (rintcNode (c .get11 .result)) (c .get11 .ensures))
+
+returns-13 : tie.Need-returns-13
 unfolding fieldsOf
-returns-12 c = rw (c .enum-told12 .given .1) (refl, refl)
+returns-13 c = rw (c .enum-told13 .given .1) (refl, refl)
 
 pub node-in-spec : {M : Type 1} → statement M
 node-in-spec =
@@ -60,6 +64,8 @@ node-in-spec =
     (tie.spec
     (λ c. search needs)
     (λ c κs. c .before .before .before .pre (rw (c .enum-told .given .1)))
+    (λ c. search needs)
+    (λ c κs. search needs)
     (λ c. search needs)
     (λ c κs. search needs)
     (λ c. search needs)
@@ -92,4 +98,5 @@ node-in-spec =
     returns-9
     returns-10
     returns-11
-    returns-12)
+    returns-12
+    returns-13)

@@ -2,7 +2,7 @@
 use mathlib.Core.Path.{_∙_}
 use borrow.Author.Needs.{needs}
 use borrow.Author.Tests.{not-true, not-false}
-use Rattle.format.specs.Row.{memories, initiators, rintcs, domains, matrices, sides, bridges, windows, xors}
+use Rattle.format.specs.Row.{memories, initiators, oldRintcs, domains, matrices, sides, bridges, windows, xors, rintcs}
 use Rattle.read.proofs.Refs.{bare-refs, none-refs, cache-refs, processor-refs}
 use Rattle.read.proofs.refs_good.Statement.{statement}
 use Rattle.read.proofs.refs_good.Tie as tie
@@ -44,15 +44,17 @@ refs-good-spec =
     (λ c. search needs)
     (λ c. search needs)
     (λ c. search needs)
+    (λ c. search needs)
     returns-2
     returns-3
     (λ c. rw (c .enum-told3 .given .1) (bare-refs _ memories _ tt))
     (λ c. rw (c .enum-told4 .given .1) (bare-refs _ initiators _ tt))
-    (λ c. rw (c .enum-told5 .given .1) (bare-refs _ rintcs _ tt))
+    (λ c. rw (c .enum-told5 .given .1) (bare-refs _ oldRintcs _ tt))
     (λ c. rw (c .enum-told6 .given .1) (bare-refs _ domains _ tt))
     (λ c. rw (c .enum-told7 .given .1) (bare-refs _ matrices _ tt))
     (λ c. rw (c .enum-told8 .given .1) (bare-refs _ sides _ tt))
     (λ c. rw (c .enum-told9 .given .1) (bare-refs _ bridges _ tt))
     (λ c. rw (c .enum-told10 .given .1) (bare-refs _ windows _ tt))
     (λ c. rw (c .enum-told11 .given .1) (bare-refs _ xors _ tt))
-    (λ c. rw (c .enum-told12 .given .1) (none-refs _ _)))
+    (λ c. rw (c .enum-told12 .given .1) (bare-refs _ rintcs _ tt))
+    (λ c. rw (c .enum-told13 .given .1) (none-refs _ _)))

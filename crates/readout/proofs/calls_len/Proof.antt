@@ -12,6 +12,7 @@ use Rattle.format.specs.Normal.{calls}
 use Rattle.laws.proofs.Fields.{length-call}
 use Rattle.rows.specs.Rows.{rowMeant}
 use Rattle.read.proofs.Refs.{plain-row}
+use Rattle.readout.specs.Places.{callsIn}
 use Rattle.readout.proofs.Records.{calls-at, length-processor, node-short, node-length, initiator-one}
 use Rattle.readout.proofs.calls_len.Statement.{statement}
 use Rattle.readout.proofs.calls_len.Tie as tie
@@ -80,7 +81,11 @@ returns-11 : tie.Need-returns-11
 returns-11 c = let v = c .before in rw (v .before .before .enum-told11 .given .1) (λ g. omega (arith, v .put-maths .ensures .0 g .next), omega (arith, v .put-maths .ensures .1))
 
 returns-12 : tie.Need-returns-12
+unfolding formIn callsIn calls
 returns-12 c = rw (c .enum-told12 .given .1) (λ g. refl, omega arith)
+
+returns-13 : tie.Need-returns-13
+returns-13 c = rw (c .enum-told13 .given .1) (λ g. refl, omega arith)
 
 pub calls-len-spec : {M : Type 1} → statement M
 calls-len-spec =
@@ -119,6 +124,7 @@ calls-len-spec =
     (λ c. search needs)
     (λ c κs. search needs)
     (λ c. search needs)
+    (λ c. search needs)
     returns
     returns-2
     returns-3
@@ -130,4 +136,5 @@ calls-len-spec =
     returns-9
     returns-10
     returns-11
-    returns-12)
+    returns-12
+    returns-13)

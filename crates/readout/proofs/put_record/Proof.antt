@@ -6,10 +6,12 @@ use borrow.Author.Needs.{needs}
 use Rattle.format.specs.Table.{Table}
 use Rattle.format.specs.Form.{memory, rintc, domain, layout}
 use Rattle.format.specs.Row.{processors, caches, initiators, matrices, bridges, formIn}
+use Rattle.format.specs.Normal.{calls}
 use Rattle.marks.specs.Marks.{Every}
 use Rattle.frames.specs.Frames.{Passed}
 use Rattle.rows.specs.Rows.{rowMeant}
 use Rattle.read.proofs.Refs.{plain-row}
+use Rattle.readout.specs.Places.{callsIn}
 use Rattle.readout.proofs.Lists.{none-laid}
 use Rattle.readout.proofs.Records.{node-short, node-laid, initiator-one}
 use Rattle.readout.proofs.put_record.Statement.{statement}
@@ -138,7 +140,11 @@ unfolding formIn
 returns-11 c = let v = c .before .before in rw (v .before .before .enum-told11 .given .1) (v .put-maths .ensures .0 _, omega arith)
 
 returns-12 : tie.Need-returns-12
+unfolding formIn callsIn calls
 returns-12 c = rw (c .enum-told12 .given .1) (none-laid _ _, omega arith)
+
+returns-13 : tie.Need-returns-13
+returns-13 c = rw (c .enum-told13 .given .1) (none-laid _ _, omega arith)
 
 pub put-record-spec : {M : Type 1} → statement M
 put-record-spec =
@@ -178,6 +184,7 @@ put-record-spec =
     (λ c κs. search needs)
     (λ c. search needs)
     (λ c. search needs)
+    (λ c. search needs)
     returns
     (λ c. search needs)
     returns-2
@@ -199,4 +206,5 @@ put-record-spec =
     returns-10
     (λ c. search needs)
     returns-11
-    returns-12)
+    returns-12
+    returns-13)

@@ -43,6 +43,18 @@ returns-3 c =
     let m = rw (x .p .given .1, r .before .revision-in .ensures, ← value-byte b 8, o .own .ensures) at (w .measure .ensures) in
     rw (by-measure _ b _ _ e m) (refl, refl)
 
+returns-4 : tie.Need-returns-4
+unfolding written
+returns-4 c =
+    let x = c .before in
+    let w = x .before .before in
+    let o = w .before in
+    let r = o .before .before in
+    let b = r .before .before .before .before .args .table .now in
+    let e = rw (r .before .revision-in .ensures, ← value-byte b 8, r .revision .ensures) at (eq-eqb _ _ (o .before .if1 .left)) in
+    let m = rw (x .p2 .given .1, r .before .revision-in .ensures, ← value-byte b 8, o .own .ensures) at (w .measure .ensures) in
+    rw (by-measure _ b _ _ e m) (refl, refl)
+
 pub read-as-spec : {M : Type 1} → statement M
 read-as-spec =
     tie.close
@@ -56,5 +68,7 @@ read-as-spec =
     (λ c κs. search needs)
     (λ c. search needs)
     (λ c. search needs)
+    (λ c. search needs)
     returns-2
-    returns-3)
+    returns-3
+    returns-4)

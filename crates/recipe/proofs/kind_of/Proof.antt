@@ -1,5 +1,4 @@
 -- `kind_of` meets its contract: a byte outside of all ranges names nothing in any table.
-use mathlib.Core.Path.{sym}
 use native.Mathlib.Omega.{arith}
 use borrow.Author.Needs.{needs}
 use Rattle.recipe.proofs.Numbers.{nowhere}
@@ -18,8 +17,8 @@ kind-of-spec =
     (λ c. search needs)
     (λ c. search needs)
     (λ c. search needs)
-    (λ c. sym (nowhere _ _ (λ l m. omega arith) (λ l m. omega arith) (λ l m. omega arith) (λ l m. omega arith)))
-    (λ c. sym (nowhere _ _ (λ l m. omega arith) (λ l m. omega arith) (λ l m. omega arith) (λ l m. omega arith)))
-    (λ c. sym (nowhere _ _ (λ l m. omega arith) (λ l m. omega arith) (λ l m. omega arith) (λ l m. omega arith)))
-    (λ c. sym (nowhere _ _ (λ l m. omega arith) (λ l m. omega arith) (λ l m. omega arith) (λ l m. omega arith)))
-    (λ c. sym (nowhere _ _ (λ l m. omega arith) (λ l m. omega arith) (λ l m. omega arith) (λ l m. omega arith))))
+    (λ c. nowhere _ _ (λ l m. omega arith) (λ l m. omega arith) (λ l m. omega arith) (λ l m. omega arith))
+    (λ c. nowhere _ _ (λ l m. omega arith) (λ l m. omega arith) (λ l m. omega arith) (λ l m. omega arith))
+    (λ c. nowhere _ _ (λ l m. omega arith) (λ l m. omega arith) (λ l m. omega arith) (λ l m. omega arith))
+    (λ c. nowhere _ _ (λ l m. omega arith) (λ l m. omega arith) (λ l m. omega arith) (λ l m. omega arith))
+    (λ c. nowhere _ _ (λ l m. omega arith) (λ l m. omega arith) (λ l m. omega arith) (λ l m. omega arith)))

@@ -1,12 +1,21 @@
--- `of_srat` meets its contract: an SRAT's kinds by their numbers, and none for the other tables, whose ranges lie elsewhere.
-use mathlib.Core.Path.{_≡_, sym}
+-- `of_srat` meets its contract: an SRAT's kinds and the retired one by their numbers, and none for the other tables, whose ranges lie elsewhere.
+use mathlib.Core.Path.{_≡_, refl}
+use native.Mathlib.Nat.{le-antisymm}
 use native.Mathlib.Omega.{arith}
 use borrow.Author.Needs.{needs}
 use Rattle.format.specs.Table.{pptt, hmat, cedt}
 use Rattle.format.specs.Kind.{kindOf}
-use Rattle.recipe.proofs.Numbers.{unnamed}
+use Rattle.recipe.proofs.Numbers.{unnamed, past}
 use Rattle.recipe.proofs.of_srat.Statement.{statement}
 use Rattle.recipe.proofs.of_srat.Tie as tie
+
+rest : tie.Need-returns-6
+unfolding kindOf
+rest c =
+    let b = c .before .before .before .args .byte in
+    let o = c .match2 .rest in
+    let e : b ≡ 36 = le-antisymm (c .before .before .before .pre .1) (past (past (past (past (c .before .before .before .pre .0) (o .0 .0 .0 .1)) (o .0 .0 .1)) (o .0 .1)) (o .1)) in
+    rw (c .before .enum-told2 .given .1, e) (refl, refl)
 
 pub of-srat-spec : {M : Type 1} → statement M
 unfolding kindOf
@@ -17,10 +26,11 @@ of-srat-spec =
     (λ c. search needs)
     (λ c. search needs)
     (λ c. search needs)
-    (λ c. rw (c .enum-told .given .1) (sym (unnamed pptt (c .before .before .args .byte) (λ l m. omega arith))))
-    (λ c. rw (c .before .enum-told2 .given .1, c .match2 .keys1))
-    (λ c. rw (c .before .enum-told2 .given .1, c .match2 .keys2))
-    (λ c. rw (c .before .enum-told2 .given .1, c .match2 .keys3))
-    (λ c. let e : c .before .before .before .args .byte ≡ 35 = omega (arith, c .match2 .rest .1, c .match2 .rest .0 .1, c .match2 .rest .0 .0 .1) in rw (c .before .enum-told2 .given .1, e))
-    (λ c. rw (c .enum-told3 .given .1) (sym (unnamed hmat (c .before .before .args .byte) (λ l m. omega arith))))
-    (λ c. rw (c .enum-told4 .given .1) (sym (unnamed cedt (c .before .before .args .byte) (λ l m. omega arith)))))
+    (λ c. rw (c .enum-told .given .1) (unnamed pptt (c .before .before .args .byte) (λ l m. omega arith)))
+    (λ c. rw (c .before .enum-told2 .given .1, c .match2 .keys1) (refl, refl))
+    (λ c. rw (c .before .enum-told2 .given .1, c .match2 .keys2) (refl, refl))
+    (λ c. rw (c .before .enum-told2 .given .1, c .match2 .keys3) (refl, refl))
+    (λ c. rw (c .before .enum-told2 .given .1, c .match2 .keys4) (refl, refl))
+    rest
+    (λ c. rw (c .enum-told3 .given .1) (unnamed hmat (c .before .before .args .byte) (λ l m. omega arith)))
+    (λ c. rw (c .enum-told4 .given .1) (unnamed cedt (c .before .before .args .byte) (λ l m. omega arith))))

@@ -6,11 +6,12 @@ use borrow.Author.Needs.{needs}
 use lib.ListN.{length}
 use Rattle.format.specs.Bytes.{part}
 use Rattle.format.specs.Table.{headOf}
+use Rattle.format.specs.Kind.{noKind}
 use Rattle.header.specs.Header.{meant}
 use Rattle.recipe.specs.Kinds.{meantKind, named}
 use Rattle.recipe.specs.Answers.{outlined}
 use Rattle.recipe.specs.Machine.{Stands}
-use Rattle.recipe.proofs.Numbers.{body-short}
+use Rattle.recipe.proofs.Numbers.{no-kind, body-short}
 use Rattle.recipe.proofs.Walks.{length-noted, starts-so, sound, ends, incomplete, bad-kind, cut-off, stops, stops-at, within, goes, clear}
 use Rattle.recipe.proofs.walk.Statement.{statement}
 use Rattle.recipe.proofs.walk.Tie as tie
@@ -30,18 +31,20 @@ returns c =
     let x = c .before in
     let m = x .before in
     let i = m .before .before in
-    let f = rw (m .kind-of .ensures) at (sym (x .lacks .ensures) ∙ c .if1 .taken) in
+    let f = rw (m .kind-of .ensures .0) at (sym (x .lacks .ensures) ∙ c .if1 .taken) in
     sym (ap outlined (incomplete _ _ _ _ _ _ (i .before .loop .inv .0) (i .loop-test .taken) f))
 
 returns-2 : tie.Need-returns-2 Inv-loop μ-loop
+unfolding noKind
 returns-2 c =
-    let g = c .before .before in
+    let d = c .before in
+    let g = d .before in
     let x = g .before in
     let m = x .before in
     let i = m .before .before in
-    let e = sym (m .kind-of .ensures) ∙ ap named (c .enum-told .given .1) in
-    let f = rw (m .kind-of .ensures, e) at (sym (x .lacks .ensures) ∙ g .if1 .left) in
-    sym (ap outlined (bad-kind _ _ _ _ _ _ (i .before .loop .inv .0) (i .loop-test .taken) e f))
+    let e = sym (m .kind-of .ensures .0) ∙ no-kind (m .kind-of .result) (d .match .keys2) in
+    let f = rw (m .kind-of .ensures .0, e) at (sym (x .lacks .ensures) ∙ g .if1 .left) in
+    rw (c .refusal .ensures, m .kind-of .ensures .1) (sym (ap outlined (bad-kind _ _ _ _ _ _ (i .before .loop .inv .0) (i .loop-test .taken) e f)))
 
 add-end-2 : tie.Need-add-end-2 Inv-loop μ-loop
 add-end-2 c = omega (arith, body-short (meantKind (c .before .before .named .given .0 .0)))
@@ -54,8 +57,8 @@ returns-3 c =
     let x = g .before in
     let m = x .before in
     let i = m .before .before in
-    let e = sym (m .kind-of .ensures) ∙ ap named (k .named .given .1) in
-    let f = rw (m .kind-of .ensures, e) at (sym (x .lacks .ensures) ∙ g .if1 .left) in
+    let e = sym (m .kind-of .ensures .0) ∙ ap named (k .named .given .1) in
+    let f = rw (m .kind-of .ensures .0, e) at (sym (x .lacks .ensures) ∙ g .if1 .left) in
     sym (ap outlined (cut-off _ _ _ _ _ _ (i .before .loop .inv .0) (i .loop-test .taken) _ e f (rw (c .before .rest .ensures, n .body-len .ensures) at (c .if2 .taken))))
 
 judge-requires : tie.Need-judge-requires Inv-loop μ-loop
@@ -72,8 +75,8 @@ note-type-requires c κs q =
     let x = g .before in
     let m = x .before in
     let i = m .before .before in
-    let e = sym (m .kind-of .ensures) ∙ ap named (k .named .given .1) in
-    let f = rw (m .kind-of .ensures, e) at (sym (x .lacks .ensures) ∙ g .if1 .left) in
+    let e = sym (m .kind-of .ensures .0) ∙ ap named (k .named .given .1) in
+    let f = rw (m .kind-of .ensures .0, e) at (sym (x .lacks .ensures) ∙ g .if1 .left) in
     clear _ _ _ _ _ _ (i .before .loop .inv .0) (i .loop-test .taken) _ e f q
 
 loop-less : tie.Need-loop-less Inv-loop μ-loop
@@ -97,8 +100,8 @@ loop-again c =
     let x = g .before in
     let m = x .before in
     let i = m .before .before in
-    let e = sym (m .kind-of .ensures) ∙ ap named (k .named .given .1) in
-    let f = rw (m .kind-of .ensures, e) at (sym (x .lacks .ensures) ∙ g .if1 .left) in
+    let e = sym (m .kind-of .ensures .0) ∙ ap named (k .named .given .1) in
+    let f = rw (m .kind-of .ensures .0, e) at (sym (x .lacks .ensures) ∙ g .if1 .left) in
     let d = rw (r .rest .ensures) at (y .judge .ensures) in
     let s = goes _ _ _ _ _ _ (i .before .loop .inv .0) (i .loop-test .taken) _ e f (rw (r .rest .ensures, n .body-len .ensures) at (h .if2 .left)) _ d _ (o .more .given .1) in
     rw (t .note-type .ensures, v .newer .ensures)
@@ -116,10 +119,10 @@ returns-4 c =
     let x = g .before in
     let m = x .before in
     let i = m .before .before in
-    let e = sym (m .kind-of .ensures) ∙ ap named (k .named .given .1) in
-    let f = rw (m .kind-of .ensures, e) at (sym (x .lacks .ensures) ∙ g .if1 .left) in
+    let e = sym (m .kind-of .ensures .0) ∙ ap named (k .named .given .1) in
+    let f = rw (m .kind-of .ensures .0, e) at (sym (x .lacks .ensures) ∙ g .if1 .left) in
     let d = rw (r .rest .ensures) at (y .judge .ensures) in
-    sym (ap outlined (stops _ _ _ _ _ _ (i .before .loop .inv .0) (i .loop-test .taken) _ e f (rw (r .rest .ensures, n .body-len .ensures) at (h .if2 .left)) _ d _ (c .before .refusal .given .1)))
+    sym (ap outlined (stops _ _ _ _ _ _ (i .before .loop .inv .0) (i .loop-test .taken) _ e f (rw (r .rest .ensures, n .body-len .ensures) at (h .if2 .left)) _ d _ (c .before .refusal2 .given .1)))
 
 add-by : tie.Need-add-t31 Inv-loop μ-loop
 add-by c =
@@ -132,8 +135,8 @@ add-by c =
     let x = g .before in
     let m = x .before in
     let i = m .before .before in
-    let e = sym (m .kind-of .ensures) ∙ ap named (k .named .given .1) in
-    let f = rw (m .kind-of .ensures, e) at (sym (x .lacks .ensures) ∙ g .if1 .left) in
+    let e = sym (m .kind-of .ensures .0) ∙ ap named (k .named .given .1) in
+    let f = rw (m .kind-of .ensures .0, e) at (sym (x .lacks .ensures) ∙ g .if1 .left) in
     let d = rw (r .rest .ensures) at (y .judge .ensures) in
     let l = within _ _ _ _ _ _ (i .before .loop .inv .0) (i .loop-test .taken) _ e f (rw (r .rest .ensures, n .body-len .ensures) at (h .if2 .left)) _ d _ (c .before .by .given .1) in
     omega (arith, l, add-end-2 n, n .body-len .ensures)
@@ -149,8 +152,8 @@ returns-5 c =
     let x = g .before in
     let m = x .before in
     let i = m .before .before in
-    let e = sym (m .kind-of .ensures) ∙ ap named (k .named .given .1) in
-    let f = rw (m .kind-of .ensures, e) at (sym (x .lacks .ensures) ∙ g .if1 .left) in
+    let e = sym (m .kind-of .ensures .0) ∙ ap named (k .named .given .1) in
+    let f = rw (m .kind-of .ensures .0, e) at (sym (x .lacks .ensures) ∙ g .if1 .left) in
     let d = rw (r .rest .ensures) at (y .judge .ensures) in
     sym (ap outlined (stops-at _ _ _ _ _ _ (i .before .loop .inv .0) (i .loop-test .taken) _ e f (rw (r .rest .ensures, n .body-len .ensures) at (h .if2 .left)) _ d _ (c .before .by .given .1)))
 
@@ -173,7 +176,7 @@ walk-spec =
     (λ c. search needs)
     returns
     (λ c. search needs)
-    (λ c. search needs)
+    (λ c κs. search needs)
     (λ c. search needs)
     returns-2
     (λ c κs. search needs)

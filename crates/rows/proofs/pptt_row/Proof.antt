@@ -23,6 +23,6 @@ pptt-row-spec =
     (λ c κs. search needs)
     (λ c κs. search needs)
     (λ c κs. search needs)
-    (λ c. c .when .ensures ∙ by-column processors _ (c .before .before .before .before .if1 .left) (c .before .before .before .short-type .ensures) (c .before .before .match .keys1) (c .before .fits2 .ensures))
-    (λ c. c .when2 .ensures ∙ by-column caches _ (c .before .before .before .if1 .left) (c .before .before .short-type .ensures) (c .before .match .keys2) refl)
+    (λ c. c .when .ensures ∙ by-column processors _ tt (c .before .before .before .before .if1 .left) (c .before .before .before .short-type .ensures) (c .before .before .match .keys1) (c .before .fits2 .ensures))
+    (λ c. c .when2 .ensures ∙ by-column caches _ tt (c .before .before .before .if1 .left) (c .before .before .short-type .ensures) (c .before .match .keys2) refl)
     returns-4)

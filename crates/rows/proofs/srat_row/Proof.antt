@@ -1,11 +1,11 @@
--- `srat_row` meets its contract: each arm has the revision and the type of one row.
+-- `srat_row` meets its contract: each arm has the revision and the type of one row, or of the two RINTCs.
 use mathlib.Core.Path.{refl, _∙_}
 use borrow.Author.Needs.{needs}
 use borrow.Author.Tests.{eq-eqb, ne-eqb}
 use Rattle.format.specs.Bytes.{part}
 use Rattle.format.specs.Table.{srat}
-use Rattle.format.specs.Row.{memories, initiators, rintcs, column, matches, rowOf}
-use Rattle.rows.proofs.Matches.{other-revision, by-column}
+use Rattle.format.specs.Row.{memories, initiators, column, matches, rowOf}
+use Rattle.rows.proofs.Matches.{other-revision, by-column, by-columns}
 use Rattle.rows.proofs.srat_row.Statement.{statement}
 use Rattle.rows.proofs.srat_row.Tie as tie
 
@@ -23,7 +23,7 @@ srat-row-spec =
     (λ c κs. search needs)
     (λ c κs. search needs)
     (λ c κs. search needs)
-    (λ c. c .when .ensures ∙ by-column memories _ (c .before .before .before .if1 .left) (c .before .before .short-type .ensures) (c .before .match .keys1) refl)
-    (λ c. c .when2 .ensures ∙ by-column initiators _ (c .before .before .before .if1 .left) (c .before .before .short-type .ensures) (c .before .match .keys2) refl)
-    (λ c. c .when3 .ensures ∙ by-column rintcs _ (c .before .before .before .if1 .left) (c .before .before .short-type .ensures) (c .before .match .keys3) refl)
+    (λ c. c .when .ensures ∙ by-column memories _ tt (c .before .before .before .if1 .left) (c .before .before .short-type .ensures) (c .before .match .keys1) refl)
+    (λ c. c .when2 .ensures ∙ by-column initiators _ tt (c .before .before .before .if1 .left) (c .before .before .short-type .ensures) (c .before .match .keys2) refl)
+    (λ c. c .rintc-row .ensures ∙ by-columns _ (c .before .before .before .if1 .left) (c .before .before .short-type .ensures) (c .before .match .keys3))
     returns-5)

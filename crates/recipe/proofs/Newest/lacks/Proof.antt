@@ -16,6 +16,7 @@ use Rattle.recipe.specs.declared.Newest.the-variants as is
 use Rattle.recipe.specs.Kinds.{meantKind, named}
 use Rattle.recipe.specs.Machine.{lacks}
 use Rattle.recipe.proofs.Kind as kinds
+use Rattle.recipe.proofs.Numbers.{no-kind}
 use Rattle.recipe.proofs.Newest as newests
 use Rattle.recipe.proofs.Newest.lacks.Statement.{statement}
 use Rattle.recipe.proofs.Newest.lacks.Tie as tie
@@ -59,8 +60,8 @@ returns-2 c = rw (c .before .before .self .given .1, le-ltb _ _ (c .if1 .taken))
 
 returns-3 : tie.Need-returns-3
 returns-3 c =
-    let e = c .before .before in
-    rw (e .before .before .self .given .1, c .enum-told .given .1, lt-ltb _ _ (e .if1 .left))
+    let e = c .before in
+    rw (e .before .before .self .given .1, no-kind (e .before .before .before .before .args .next) (c .match2 .keys2), lt-ltb _ _ (e .if1 .left))
 
 returns-4 : tie.Need-returns-4
 returns-4 c =
@@ -72,8 +73,8 @@ returns-5 : tie.Need-returns-5
 returns-5 c =
     let n = c .before .before .before in
     let e = n .before .before in
-    rw (e .before .before .self .given .1, n .next .given .1, c .enum-told2 .given .1, lt-ltb _ _ (e .if1 .left))
+    rw (e .before .before .self .given .1, n .next .given .1, c .enum-told .given .1, lt-ltb _ _ (e .if1 .left))
 
 pub lacks-spec : {M : Type 1} → statement M
 lacks-spec =
-    tie.close (tie.spec (λ c. search needs) returns returns-2 (λ c. search needs) (λ c. search needs) returns-3 (λ c. search needs) returns-4 returns-5)
+    tie.close (tie.spec (λ c. search needs) returns returns-2 (λ c. search needs) returns-3 (λ c. search needs) returns-4 returns-5)

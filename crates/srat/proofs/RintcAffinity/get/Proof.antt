@@ -8,13 +8,14 @@ use Rattle.srat.proofs.RintcAffinity.get.Tie as tie
 returns : tie.Need-returns
 unfolding layout
 returns c =
-    let d = c .before .before in
-    rw (node-at, d .get-u32 .ensures, c .before .get-u322 .ensures, c .get-u323 .ensures, d .before .rest .ensures)
+    let d = c .before .before .before in
+    rw (node-at, d .get-u32 .ensures, c .before .before .get-u322 .ensures, c .before .get-u323 .ensures, c .get-u324 .ensures, d .before .rest .ensures)
 
 pub get-spec : {M : Type 1} → statement M
 get-spec =
     tie.close
     (tie.spec
+    (λ c κs. search needs)
     (λ c κs. search needs)
     (λ c κs. search needs)
     (λ c κs. search needs)
