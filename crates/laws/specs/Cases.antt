@@ -135,10 +135,11 @@ withRintc flags = head srat ++ call Rintc (3 ∷ 7 ∷ flags ∷ 9 ∷ [])
 abbrev pub sratOf : ℕ → ℕ → List ℕ → List ℕ
 sratOf revision check bs = sign srat ++ (le 4 (48 + length bs) ++ (revision ∷ check ∷ (replicate 26 0 ++ (1 ∷ (replicate 11 0 ++ bs)))))
 
--- the record of 16 bytes: uid 5, flags 1, clock domain 9; the record of 20 bytes has its domain, 3, before them
+-- the record of 16 bytes: uid 5, flags 1, clock domain 9
 abbrev pub sixteen : List ℕ
 sixteen = 7 ∷ 16 ∷ 0 ∷ 0 ∷ 5 ∷ 0 ∷ 0 ∷ 0 ∷ 1 ∷ 0 ∷ 0 ∷ 0 ∷ 9 ∷ 0 ∷ 0 ∷ 0 ∷ []
 
+-- that of 20, with domain 3 before them
 abbrev pub twenty : List ℕ
 twenty = 7 ∷ 20 ∷ 0 ∷ 0 ∷ 3 ∷ 0 ∷ 0 ∷ 0 ∷ 5 ∷ 0 ∷ 0 ∷ 0 ∷ 1 ∷ 0 ∷ 0 ∷ 0 ∷ 9 ∷ 0 ∷ 0 ∷ 0 ∷ []
 

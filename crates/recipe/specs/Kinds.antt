@@ -41,6 +41,7 @@ named (As k) = some (meantKind k)
 named Retired = none
 named Nothing = none
 
+-- it named a kind once
 abbrev pub isRetired : Named → Bool
 isRetired (As k) = false
 isRetired Retired = true
