@@ -1,6 +1,6 @@
 -- What the writing pass does, record by record: the bytes of the buffer, and the numbers that the pass keeps.
 use mathlib.Core.Path.{_≡_}
-use Prim.Native.Nat.{ℕ, zero, suc, _+_, _-_, _*_, _%_}
+use Prim.Native.Nat.{ℕ, zero, suc, _+_, _-_, _%_}
 use mathlib.Core.List.{List}
 use lib.Dec.{eqb}
 use Rattle.format.specs.Bytes.{pick, at, le, over}
@@ -48,7 +48,7 @@ sets s x out = over out (settingAt s x) (le (matrices.wideIn x) (setTo x))
 
 -- the place of the newest window's next target
 abbrev pub targetAt : State → ℕ
-targetAt s = s .latest .place + 36 + 4 * s .latest .count
+targetAt s = cedt.targetIn (s .latest .place) (s .latest .count)
 
 -- the buffer after a record of a kind with the fields vs
 unfoldable pub wrote : Kind → State → List ℕ → List ℕ → List ℕ

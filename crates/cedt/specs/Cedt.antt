@@ -69,6 +69,10 @@ windowFront w = lay (take 12 (layout (windowForm w))) (windowFields w)
 abbrev pub windowShown : CxlFixedMemory → List ℕ
 windowShown w = windowFields w
 
+-- where target i stands of a window whose record starts at p
+abbrev pub targetIn : ℕ → ℕ → ℕ
+targetIn p i = p + 36 + 4 * i
+
 -- the one field of a target
 abbrev pub targetFields : CxlTarget → List ℕ
 targetFields t = t .0 ∷ []

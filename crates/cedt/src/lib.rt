@@ -16,7 +16,7 @@ ghost use Rattle.format.specs.Row.{bridges, windows, xors, column, formIn};
 ghost use Rattle.format.specs.Read.{sound};
 ghost use Rattle.laws.specs.Offsets.{trimmed};
 ghost use Rattle.cedt.specs.Numbers.{versionNumber, arithmeticNumber, granularityNumber, waysNumber};
-ghost use Rattle.cedt.specs.Cedt.{bridgeOf, bridgeShown, bridgeNode, windowOf, windowWith, windowForm, windowFields, windowNode, windowFront, windowShown, targetFields, mathsOf, mathsForm, mathsFields, mathsHead, mathsFront, mathsShown, mapFields, grown};
+ghost use Rattle.cedt.specs.Cedt.{bridgeOf, bridgeShown, bridgeNode, windowOf, windowWith, windowForm, windowFields, windowNode, windowFront, windowShown, targetIn, targetFields, mathsOf, mathsForm, mathsFields, mathsHead, mathsFront, mathsShown, mapFields, grown};
 
 // ---- row 8
 
@@ -322,7 +322,7 @@ impl CxlFixedMemory {
     pub const LEN: usize = 36;
 
     // with the one target that every window has
-    pub const LEAST: usize = 40;
+    const LEAST: usize = 40;
 
     // How many values a reading call shows.
     pub const FIELDS: usize = 7;
@@ -479,14 +479,14 @@ impl CxlFixedMemory {
 
     // Where target i stands of a window at a place.
     pub fn target_place(at: usize, i: usize) -> usize
-        ensures { λ r. ⌜ r ≡ min (at + 36 + 4 * i) (2 ^ 64 - 1) ⌝ }
+        ensures { λ r. ⌜ r ≡ min (targetIn at i) (2 ^ 64 - 1) ⌝ }
     {
         field::behind(field::behind(at, Self::LEN, 1), CxlTarget::LEN, i)
     }
 
     // Writes a target of the window at a place.
     pub fn add_target(out: &mut [u8], at: usize, i: usize, target: CxlTarget)
-        ensures { λ _. ⌜ now (out .exit) ≡ over (now (out .entry)) (at + 36 + 4 * i) (le 4 (target .0)) ⌝ }
+        ensures { λ _. ⌜ now (out .exit) ≡ over (now (out .entry)) (targetIn at i) (le 4 (target .0)) ⌝ }
     {
         let place = Self::target_place(at, i);
         field::put_u32(out, place, target.0);
@@ -510,7 +510,7 @@ impl CxlFixedMemory {
 
     // Reads a target of the window at a place.
     pub fn interleave_target(table: &[u8], at: usize, i: usize) -> CxlTarget
-        ensures { λ r. ⌜ r .0 ≡ value (part (now (table .entry)) (at + 36 + 4 * i) 4) ⌝ }
+        ensures { λ r. ⌜ r .0 ≡ value (part (now (table .entry)) (targetIn at i) 4) ⌝ }
     {
         CxlTarget(field::get_u32(table, Self::target_place(at, i)))
     }

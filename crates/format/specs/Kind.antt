@@ -52,7 +52,7 @@ retired srat = 35 ∷ []
 retired hmat = []
 retired cedt = []
 
--- why a byte names no kind: 12 where it is retired, else 2
+-- of a byte that names no kind, why: 12 where it is retired, else 2
 unfoldable pub noKind : Table → ℕ → ℕ
 noKind t b = pick (has (retired t) b) 12 2
 

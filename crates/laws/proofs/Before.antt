@@ -1,6 +1,6 @@
 -- What a recipe of the older tables means has not moved, but for the place of 5 and the split of 6: record by record, since of the two lists of faults one has a line more, and no node of these tables lacks an entry.
 use mathlib.Core.Path.{_≡_, refl, sym, ap, _∙_}
-use Prim.Native.Nat.{ℕ, zero, suc, _+_, _<_}
+use Prim.Native.Nat.{ℕ, suc, _+_, _<_}
 use mathlib.Core.List.{List, [], _∷_, _++_}
 use mathlib.Core.Bool.{Bool, true, false, not}
 use mathlib.Core.Option.{Option, none, some}
@@ -10,19 +10,19 @@ use lib.ListN.{length, drop}
 use lib.Dec.{eqb, ltb}
 use borrow.Author.Tests.{ne-eqb, eqb-true, eqb-false}
 use Rattle.format.specs.Bytes.{pick, all, firstOf, Answer, given, andThen, orRefused, unless, at, part}
-use Rattle.format.specs.Layout.{width, fields, refsGood}
+use Rattle.format.specs.Layout.{refsGood}
 use Rattle.format.specs.Table.{Table, pptt, srat, hmat, cedt, code, front, limit, Head, headOf}
 use Rattle.format.specs.Form.{processor, side}
 use Rattle.format.specs.Node.{Node, sizes, starts, isOrdinal, atOrdinal}
-use Rattle.format.specs.Kind.{Kind, Processor, Resource, Cache, Memory, Acpi, Pci, Rintc, Domain, Matrix, Initiator, Target, Cell, Side, Handle, Bridge, Window, WindowTarget, Xor, Map, kindOf, noKind, body}
+use Rattle.format.specs.Kind.{Kind, Processor, Resource, Cache, Memory, Acpi, Pci, Rintc, Domain, Matrix, Initiator, Target, Cell, Side, Handle, Bridge, Window, WindowTarget, Xor, Map, noKind, body}
 use Rattle.format.specs.Field.{badIn}
-use Rattle.format.specs.Recipe.{Calls, done, badKind, cutOff, called, cutAs, skip, cut, Newest, aList, aMatrix, other, newest, joined, setting, step, added, fault, faultAt, since, lacking, run, tableOf, headed, meaning}
+use Rattle.format.specs.Recipe.{Calls, done, badKind, cutOff, called, cut, Newest, aList, aMatrix, other, newest, joined, setting, step, added, fault, faultAt, since, lacking, run, tableOf, headed, meaning}
 use Rattle.laws.specs.Before.{faultBefore, runBefore, tableBefore, headedBefore, meaningBefore, Moves, good, same, field, kind, NoRintc, Stays}
 use Rattle.laws.proofs.Finds.{never, found-test, found-in}
 use Rattle.laws.proofs.Fields.{all-bad}
 use Rattle.laws.proofs.Links.{refs-backward}
 use Rattle.laws.proofs.Grows.{View, seesProcessor, seesMatrix, seesSide, seesWindow, seesXor, seesOther, view, needless, kindHome}
-use Rattle.laws.proofs.Builds.{other-table, kind-home}
+use Rattle.laws.proofs.Builds.{other-table, kind-home, Each, cut-each}
 use Rattle.laws.proofs.Calls.{Free}
 
 module _ {A : Type 0} where
@@ -102,54 +102,24 @@ step-free Map vs ns w o = absurd (w refl)
 
 -- every kind is the table's
 abbrev Own : Table → Calls → Type 0
-Own t done = Unit
-Own t (badKind n p) = Unit
-Own t (cutOff p k) = Unit
-Own t (called p k vs rest) = (kindHome k ≡ t) × Own t rest
-
-own-as : (t : Table) (o : Option Kind) (n : ℕ) (bs : List ℕ) (p : ℕ) (rest : Calls) → ((k : Kind) → o ≡ some k → kindHome k ≡ t) → Own t rest → Own t (cutAs o n bs p rest)
-unfolding cutAs
-own-as t none n bs p rest s w = tt
-own-as t (some k) n bs p rest s w = long (ltb (length bs) (width (body k)))
-  where
-    long : (x : Bool) → Own t (pick x (cutOff p k) (called p k (fields (body k) bs) rest))
-    long true = tt
-    long false = (s k refl, w)
+Own t = Each (λ k vs. kindHome k ≡ t) (λ n. Unit)
 
 cut-own : (t : Table) (n p : ℕ) (bs : List ℕ) → Own t (cut t n p bs)
-unfolding cut
-cut-own t n p [] = tt
-cut-own t (suc n) p (b ∷ bs) = cut-own t n (suc p) bs
-cut-own t zero p (b ∷ bs) = own-as t (kindOf t b) (noKind t b) bs p (cut t (skip (kindOf t b)) (suc p) bs) (λ k e. kind-home t b k e) (cut-own t (skip (kindOf t b)) (suc p) bs)
+cut-own t n p bs = cut-each t (λ bs. Unit) (λ k vs. kindHome k ≡ t) (λ n. Unit) (λ b bs s. tt) (λ b. tt) (λ b k bs e s l. kind-home t b k e) n p bs tt
 
 -- no kind is retired
 abbrev Kept : Calls → Type 0
-Kept done = Unit
-Kept (badKind n p) = n ≡ 2
-Kept (cutOff p k) = Unit
-Kept (called p k vs rest) = Kept rest
-
-kept-as : (o : Option Kind) (n : ℕ) (bs : List ℕ) (p : ℕ) (rest : Calls) → n ≡ 2 → Kept rest → Kept (cutAs o n bs p rest)
-unfolding cutAs
-kept-as none n bs p rest i w = i
-kept-as (some k) n bs p rest i w = long (ltb (length bs) (width (body k)))
-  where
-    long : (x : Bool) → Kept (pick x (cutOff p k) (called p k (fields (body k) bs) rest))
-    long true = tt
-    long false = w
+Kept = Each (λ k vs. Unit) (λ n. n ≡ 2)
 
 -- of a table without a retired kind
 cut-kept : (t : Table) → ((b : ℕ) → noKind t b ≡ 2) → (n p : ℕ) (bs : List ℕ) → Kept (cut t n p bs)
-unfolding cut
-cut-kept t i n p [] = tt
-cut-kept t i (suc n) p (b ∷ bs) = cut-kept t i n (suc p) bs
-cut-kept t i zero p (b ∷ bs) = kept-as (kindOf t b) (noKind t b) bs p (cut t (skip (kindOf t b)) (suc p) bs) (i b) (cut-kept t i (skip (kindOf t b)) (suc p) bs)
+cut-kept t i n p bs = cut-each t (λ bs. Unit) (λ k vs. Unit) (λ n. n ≡ 2) (λ b bs s. tt) i (λ b k bs e s l. tt) n p bs tt
 
 no-rintc : (cs : Calls) → NoRintc cs → Kept cs
 no-rintc done w = tt
 no-rintc (badKind n p) w = w
 no-rintc (cutOff p k) w = tt
-no-rintc (called p k vs rest) w = no-rintc rest (w .1)
+no-rintc (called p k vs rest) w = (tt, no-rintc rest (w .1))
 
 older-kept : (t : Table) (bs : List ℕ) → (t ≡ cedt → ⊥) → (t ≡ srat → NoRintc (cut srat 0 28 bs)) → Kept (cut t 0 28 bs)
 unfolding noKind
@@ -176,7 +146,7 @@ unfolding runBefore run faultBefore fault faultAt
 moves-run h q ns done older own kept free = rw (free none) (good _)
 moves-run h q ns (badKind n p) older own kept free = rw (free none, kept) (same 2 p (λ e. omega arith))
 moves-run h q ns (cutOff p k) older own kept free = rw (free (some k)) (same 3 p (λ e. omega arith))
-moves-run h q ns (called p k vs rest) older (own, behind) kept free =
+moves-run h q ns (called p k vs rest) older (own, behind) (i, kept) free =
     let s = step k vs ns in
     rw (free (some k))
     (moves-record (s .placed) (all (s .ranges)) (refsGood (isOrdinal (length (s .earlier))) (body k) vs) (refsGood (atOrdinal (starts (h .table) (s .earlier))) (body k) vs)

@@ -87,29 +87,43 @@ kind-home t b k e = found-in (λ k. kindHome k ≡ t) (λ k. eqb b (kindNumber k
 pub other-table : {t u : Table} → eqb (code t) (code u) ≡ false → t ≡ u → ⊥
 other-table {t} {u} e f = eqb-false (code t) (code u) e (ap code f)
 
--- ---- what is cut fits
+-- ---- what holds of all that is cut
 
+-- of the kind and the fields of each record, and of the number for a byte that names no kind
+abbrev pub Each : (Kind → List ℕ → Type 0) → (ℕ → Type 0) → Calls → Type 0
+Each P Q done = Unit
+Each P Q (badKind n p) = Q n
+Each P Q (cutOff p k) = Unit
+Each P Q (called p k vs rest) = P k vs × Each P Q rest
+
+-- where S, which holds of a list, holds of what is left behind its first byte
+module _ (t : Table) (S : List ℕ → Type 0) (P : Kind → List ℕ → Type 0) (Q : ℕ → Type 0) (behind : (b : ℕ) (bs : List ℕ) → S (b ∷ bs) → S bs)
+    (unnamed : (b : ℕ) → Q (noKind t b))
+    (named : (b : ℕ) (k : Kind) (bs : List ℕ) → kindOf t b ≡ some k → S bs → width (body k) ≤ length bs → P k (fields (body k) bs)) where
+  each-as : (b : ℕ) (o : Option Kind) (bs : List ℕ) (p : ℕ) (rest : Calls) → kindOf t b ≡ o → S bs → Each P Q rest → Each P Q (cutAs o (noKind t b) bs p rest)
+  unfolding cutAs
+  each-as b none bs p rest e s w = unnamed b
+  each-as b (some k) bs p rest e s w = long (ltb (length bs) (width (body k))) refl
+    where
+      long : (x : Bool) → ltb (length bs) (width (body k)) ≡ x → Each P Q (pick x (cutOff p k) (called p k (fields (body k) bs) rest))
+      long true f = tt
+      long false f = (named b k bs e s (ltb-false (length bs) (width (body k)) f), w)
+
+  pub cut-each : (n p : ℕ) (bs : List ℕ) → S bs → Each P Q (cut t n p bs)
+  unfolding cut
+  cut-each n p [] s = tt
+  cut-each (suc n) p (b ∷ bs) s = cut-each n (suc p) bs (behind b bs s)
+  cut-each zero p (b ∷ bs) s =
+      let r = behind b bs s in
+      each-as b (kindOf t b) bs p (cut t (skip (kindOf t b)) (suc p) bs) refl r (cut-each (skip (kindOf t b)) (suc p) bs r)
+
+-- every record is the table's, and its fields fit
 abbrev Whole : Table → Calls → Type 0
-Whole t done = Unit
-Whole t (badKind n p) = Unit
-Whole t (cutOff p k) = Unit
-Whole t (called p k vs rest) = (kindHome k ≡ t) × Fit (body k) vs × Whole t rest
-
-whole-as : (t : Table) (o : Option Kind) (n : ℕ) (bs : List ℕ) (p : ℕ) (rest : Calls) → ((k : Kind) → o ≡ some k → kindHome k ≡ t) → Bytes bs → Whole t rest → Whole t (cutAs o n bs p rest)
-unfolding cutAs
-whole-as t none n bs p rest s h w = tt
-whole-as t (some k) n bs p rest s h w = long (ltb (length bs) (width (body k))) refl
-  where
-    long : (x : Bool) → ltb (length bs) (width (body k)) ≡ x → Whole t (pick x (cutOff p k) (called p k (fields (body k) bs) rest))
-    long true e = tt
-    long false e = (s k refl, body-fits k bs h (ltb-false (length bs) (width (body k)) e), w)
+Whole t = Each (λ k vs. (kindHome k ≡ t) × Fit (body k) vs) (λ n. Unit)
 
 cut-whole : (t : Table) (n p : ℕ) (bs : List ℕ) → Bytes bs → Whole t (cut t n p bs)
-unfolding cut
-cut-whole t n p [] h = tt
-cut-whole t (suc n) p (b ∷ bs) h = cut-whole t n (suc p) bs (h .1)
-cut-whole t zero p (b ∷ bs) h =
-    whole-as t (kindOf t b) (noKind t b) bs p (cut t (skip (kindOf t b)) (suc p) bs) (λ k e. kind-home t b k e) (h .1) (cut-whole t (skip (kindOf t b)) (suc p) bs (h .1))
+cut-whole t =
+    cut-each t Bytes (λ k vs. (kindHome k ≡ t) × Fit (body k) vs) (λ n. Unit) (λ b bs h. h .1) (λ b. tt) (λ b k bs e h l. (kind-home t b k e, body-fits k bs h l))
 
 -- ---- the pass
 
@@ -123,7 +137,7 @@ run-good h q ns done m w g l e =
     rw (← i) (refl, whole-good (h .table) ns none refl z g, l)
 run-good h q ns (badKind n p) m w g l e = absurd (let (z, r) = unless-given (lacking (newest ns) none) q (refused n p) e in let z : _≡_ {A = ℕ} 0 1 = cc in omega arith)
 run-good h q ns (cutOff p k) m w g l e = absurd (let (z, r) = unless-given (lacking (newest ns) (some k)) q (refused 3 p) e in let z : _≡_ {A = ℕ} 0 1 = cc in omega arith)
-run-good h q ns (called p k vs rest) m (own, f, w) g l e =
+run-good h q ns (called p k vs rest) m ((own, f), w) g l e =
     let n = fault (h .table) ns k vs in
     let (i, d) = unless-given (lacking (newest ns) (some k)) q _ e in
     let (z, r) = unless-given n (p + faultAt n k (step k vs ns .ranges)) (run h (since ns (added k vs ns) p q) (added k vs ns) rest) d in
@@ -131,8 +145,7 @@ run-good h q ns (called p k vs rest) m (own, f, w) g l e =
     let more : Grown (kindHome k) (added k vs ns) = grows k vs ns f (rw own s) i (rw own g) in
     run-good h (since ns (added k vs ns) p q) (added k vs ns) rest m w (rw own at more) (s .short) r
 
-front-short : (t : Table) → front t + sizes [] ≤ limit
-unfolding sizes
+pub front-short : (t : Table) → front t + 0 ≤ limit
 front-short pptt = omega arith
 front-short srat = omega arith
 front-short hmat = omega arith
@@ -157,7 +170,7 @@ headed-given r h e =
     rw (← y) (refl, n)
 
 pub meaning-good : (r : List ℕ) (m : Meaning) → Bytes r → meaning r ≡ given m → Means m
-unfolding meaning
+unfolding meaning sizes
 meaning-good r m b e =
     let (h, d, f) = then-given (headed r) (λ h. run h 0 [] (cut (h .table) 0 28 (drop 28 r))) e in
     let t = h .table in

@@ -19,7 +19,7 @@ use Rattle.format.specs.Kind.{Kind, Processor, Resource, Cache, Memory, Acpi, P
 use Rattle.format.specs.Field.{badIn}
 use Rattle.format.specs.Recipe.{Newest, aList, aMatrix, other, newestAs, newest, joined, setting, changes, stray, step, added, fault, lacking, since, faultAt}
 use Rattle.laws.specs.Words.{FirstOf, NoneOf, FirstNot, References}
-use Rattle.laws.specs.Demand1.{Belongs, Retired, joins, After, earlier, maker, counts, Ranged, places, Full, Lacks, Backward, Names, recordFaults, Where, OfKind}
+use Rattle.laws.specs.Demand1.{Belongs, Retired, joins, After, earlier, madeAt, counts, Ranged, places, Full, Lacks, Backward, Names, recordFaults, Where, OfKind}
 use Rattle.laws.proofs.Finds.{never, All, found-test, found-in}
 use Rattle.laws.proofs.Words.{Tests, TestsAll, tests-every, found-none, among-none, among-cases, among-more, tests-leb, tests-ltb, tests-true, tests-not, tests-both, tests-as, tests-rules, tests-references, Mirrors, none-of, first-of, first-not, offsets, first-bad}
 use Rattle.laws.proofs.Links.{length-starts}
@@ -261,27 +261,27 @@ setting-since tests field v p w seesOther e = never e
 made-since : (ns : List Node) (p w : ℕ) → pick (eqb (suc (length ns)) (length ns)) w p ≡ p
 made-since ns p w = rw (ne-eqb (suc (length ns)) (length ns) (λ i. omega arith))
 
-pub since-maker : (k : Kind) (vs : List ℕ) (ns : List Node) (p w : ℕ) → step k vs ns .placed ≡ true → since ns (added k vs ns) p w ≡ maker (joins k) p w
+pub since-madeAt : (k : Kind) (vs : List ℕ) (ns : List Node) (p w : ℕ) → step k vs ns .placed ≡ true → since ns (added k vs ns) p w ≡ madeAt (joins k) p w
 unfolding step
-since-maker Processor vs ns p w e = made-since ns p w
-since-maker Resource vs ns p w e = joined-since Resource vs p w (view ns) e
-since-maker Cache vs ns p w e = made-since ns p w
-since-maker Memory vs ns p w e = made-since ns p w
-since-maker Acpi vs ns p w e = made-since ns p w
-since-maker Pci vs ns p w e = made-since ns p w
-since-maker Rintc vs ns p w e = made-since ns p w
-since-maker Domain vs ns p w e = made-since ns p w
-since-maker Matrix vs ns p w e = made-since ns p w
-since-maker Initiator vs ns p w e = setting-since _ _ _ p w (view ns) e
-since-maker Target vs ns p w e = setting-since _ _ _ p w (view ns) e
-since-maker Cell vs ns p w e = setting-since _ _ _ p w (view ns) e
-since-maker Side vs ns p w e = made-since ns p w
-since-maker Handle vs ns p w e = joined-since Handle vs p w (view ns) e
-since-maker Bridge vs ns p w e = made-since ns p w
-since-maker Window vs ns p w e = made-since ns p w
-since-maker WindowTarget vs ns p w e = joined-since WindowTarget vs p w (view ns) e
-since-maker Xor vs ns p w e = made-since ns p w
-since-maker Map vs ns p w e = joined-since Map vs p w (view ns) e
+since-madeAt Processor vs ns p w e = made-since ns p w
+since-madeAt Resource vs ns p w e = joined-since Resource vs p w (view ns) e
+since-madeAt Cache vs ns p w e = made-since ns p w
+since-madeAt Memory vs ns p w e = made-since ns p w
+since-madeAt Acpi vs ns p w e = made-since ns p w
+since-madeAt Pci vs ns p w e = made-since ns p w
+since-madeAt Rintc vs ns p w e = made-since ns p w
+since-madeAt Domain vs ns p w e = made-since ns p w
+since-madeAt Matrix vs ns p w e = made-since ns p w
+since-madeAt Initiator vs ns p w e = setting-since _ _ _ p w (view ns) e
+since-madeAt Target vs ns p w e = setting-since _ _ _ p w (view ns) e
+since-madeAt Cell vs ns p w e = setting-since _ _ _ p w (view ns) e
+since-madeAt Side vs ns p w e = made-since ns p w
+since-madeAt Handle vs ns p w e = joined-since Handle vs p w (view ns) e
+since-madeAt Bridge vs ns p w e = made-since ns p w
+since-madeAt Window vs ns p w e = made-since ns p w
+since-madeAt WindowTarget vs ns p w e = joined-since WindowTarget vs p w (view ns) e
+since-madeAt Xor vs ns p w e = made-since ns p w
+since-madeAt Map vs ns p w e = joined-since Map vs p w (view ns) e
 
 -- ---- ranges
 

@@ -18,13 +18,13 @@ use Rattle.format.specs.Kind.{Kind, WindowTarget, kindOf, noKind, body}
 use Rattle.format.specs.Recipe.{Calls, done, badKind, cutOff, called, cutAs, skip, cut, newest, added, fault, lacking, Meaning, means, run, tableOf, headed, meaning}
 use Rattle.format.specs.Build.{lengthOf, fitting, build}
 use Rattle.laws.specs.Words.{FirstOf, NoneOf}
-use Rattle.laws.specs.Demand1.{Belongs, joins, maker, Lacks, Ready, headFaults, recordFaults, fieldsAt, endOf, Where, faults, Headed, OfKind, Reaches, start, next, Comes, Says, AtHead, BadKind, RetiredKind, NoKind, AtRecord, Incomplete, NoRoom, Earned, Exactly, One}
+use Rattle.laws.specs.Demand1.{Belongs, joins, madeAt, Lacks, Ready, headFaults, recordFaults, fieldsAt, endOf, Where, faults, Headed, OfKind, Reaches, start, next, Comes, Says, AtHead, BadKind, RetiredKind, NoKind, AtRecord, Incomplete, NoRoom, Earned, Exactly, One}
 use Rattle.laws.proofs.Finds.{found-test}
 use Rattle.laws.proofs.Calls.{cut-skip}
 use Rattle.laws.proofs.Settings.{table-back}
 use Rattle.laws.proofs.Grows.{passed}
 use Rattle.laws.proofs.Words.{found-none, first-one, first-none, Numbers, first-in}
-use Rattle.laws.proofs.Faults.{kind-then, no-kind, bad-none, retired-none, kind-is, Follows, follows-next, since-maker, decided, faultless, faulty, fault-where, fault-place}
+use Rattle.laws.proofs.Faults.{kind-then, no-kind, bad-none, retired-none, kind-is, Follows, follows-next, since-madeAt, decided, faultless, faulty, fault-where, fault-place}
 
 -- ---- cutting at a place
 
@@ -157,11 +157,11 @@ module _ (h : Head) (r : List ℕ) (hd : Headed (h .table) r) where
       free = rw (kind-is (h .table) (at r p) k o) at (ready-none ns p y)
 
       run-good : NoneOf (faults (h .table) r q ns p k)
-          → run h w ns (rest (h .table) r p) ≡ run h (maker (joins k) p w) (added k (fieldsAt r p k) ns) (rest (h .table) r (endOf p k))
+          → run h w ns (rest (h .table) r p) ≡ run h (madeAt (joins k) p w) (added k (fieldsAt r p k) ns) (rest (h .table) r (endOf p k))
       unfolding run rest
       run-good n =
           let z = faultless (h .table) (at r q) ns k (fieldsAt r p k) f .1 (n .1) in
-          let m = since-maker k (fieldsAt r p k) ns p w (passed (h .table) ns k (fieldsAt r p k) z .place) in
+          let m = since-madeAt k (fieldsAt r p k) ns p w (passed (h .table) ns k (fieldsAt r p k) z .place) in
           ap (run h w ns) (rest-whole (h .table) r p k o l (n .0)) ∙ rw (free, z, m)
 
       run-cut : length r < endOf p k → run h w ns (rest (h .table) r p) ≡ refused 3 p
@@ -261,7 +261,7 @@ module _ (h : Head) (r : List ℕ) (hd : Headed (h .table) r) where
       kind y i ih (some k) e =
           let o = kind-then (h .table) (at r p) k e in
           at-kind q w p ns x y i k o λ n.
-          rw (run-good q w p ns x y k o n) (ih p (maker (joins k) p w) (endOf p k) (added k (fieldsAt r p k) ns) (omega arith) (next x y k o n))
+          rw (run-good q w p ns x y k o n) (ih p (madeAt (joins k) p w) (endOf p k) (added k (fieldsAt r p k) ns) (omega arith) (next x y k o n))
 
       by : Ready (h .table) r ns p → (c : Bool) → ltb p (length r) ≡ c → From j → Outcome h r (run h w ns (rest (h .table) r p))
       by y true e ih = kind y (ltb-true p (length r) e) ih (kindOf (h .table) (at r p)) refl

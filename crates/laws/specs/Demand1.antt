@@ -62,9 +62,9 @@ earlier none ns = ns
 earlier (some j) ns = drop 1 ns
 
 -- the record that made a node: one at p made one of its own, one that joins is of the node that the record at w made
-abbrev pub maker : Option (ℕ × ℕ) → ℕ → ℕ → ℕ
-maker none p w = p
-maker (some j) p w = w
+abbrev pub madeAt : Option (ℕ × ℕ) → ℕ → ℕ → ℕ
+madeAt none p w = p
+madeAt (some j) p w = w
 
 -- ---- what a record's node has
 
@@ -216,7 +216,7 @@ Ready t r ns p = Lacks (newest ns) → OfKind t (at r p) WindowTarget
 pub data Reaches (t : Table) (r : List ℕ) : ℕ → ℕ → List Node → ℕ → Type 0 where
   start : Reaches t r 0 0 [] 28
   next : {q w p : ℕ} {ns : List Node} → Reaches t r q w ns p → Ready t r ns p → (k : Kind) → OfKind t (at r p) k → NoneOf (faults t r q ns p k)
-      → Reaches t r p (maker (joins k) p w) (added k (fieldsAt r p k) ns) (endOf p k)
+      → Reaches t r p (madeAt (joins k) p w) (added k (fieldsAt r p k) ns) (endOf p k)
 
 -- a record stands at p, none before it is faulty, and it may come there
 pub record Comes (t : Table) (r : List ℕ) (q w : ℕ) (ns : List Node) (p : ℕ) : Type 0 where

@@ -21,7 +21,7 @@ use Rattle.laws.proofs.Lays.{both-true}
 use Rattle.laws.proofs.Fields.{fault-within}
 use Rattle.laws.proofs.Offsets.{fields-at}
 use Rattle.laws.proofs.Grows.{View, seesProcessor, seesMatrix, seesSide, seesWindow, seesXor, seesOther, view, needless, passed}
-use Rattle.laws.proofs.Builds.{kind-home}
+use Rattle.laws.proofs.Builds.{kind-home, front-short}
 use Rattle.laws.proofs.Calls.{cut-at}
 use Rattle.laws.proofs.Settings.{table-back}
 use Rattle.laws.proofs.Links.{few-nodes}
@@ -190,12 +190,6 @@ meant-named pptt = refl
 meant-named srat = refl
 meant-named hmat = refl
 meant-named cedt = refl
-
-front-short : (t : Table) → front t + 0 ≤ limit
-front-short pptt = omega arith
-front-short srat = omega arith
-front-short hmat = omega arith
-front-short cedt = omega arith
 
 -- a refusal of a step is one of the whole
 refused-also : {A B : Type 0} (f q n p : ℕ) (x : A) (b : Answer B) → refused n p ≡ unless f q (given x) → (unless f q b ≡ refused n p) × (p ≡ q)

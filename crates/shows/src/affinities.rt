@@ -11,11 +11,7 @@ pub fn memory(n: MemoryAffinity) {
     words::say(b"memory\n");
     words::line(b"domain", n.proximity_domain as u64);
     words::hex_line(b"base address", n.base_address);
-    words::name(b"length");
-    words::hex(n.length);
-    words::say(b" (");
-    words::number(n.length);
-    words::say(b" bytes)\n");
+    words::size_line(b"length", n.length);
     words::flags(n.flags as u64);
     let some = words::bit(n.flags, MemoryAffinity::ENABLED, b"enabled", false);
     let some = words::bit(

@@ -4,15 +4,6 @@ use cedt::CxlFixedMemory;
 use cedt::CxlHostBridge;
 use cedt::XorInterleaveMath;
 
-// A number of bytes, both ways.
-fn bytes_line(word: &[u8], n: u64) {
-    words::name(word);
-    words::hex(n);
-    words::say(b" (");
-    words::number(n);
-    words::say(b" bytes)\n");
-}
-
 // What the version is of, and how many bytes its registers take.
 pub fn bridge(n: CxlHostBridge) {
     words::say(b"CXL host bridge\n");
@@ -25,7 +16,7 @@ pub fn bridge(n: CxlHostBridge) {
         words::say(b" (CXL 2.0)\n");
     }
     words::hex_line(b"base address", n.port_base);
-    bytes_line(b"length", n.registers() as u64);
+    words::size_line(b"length", n.registers() as u64);
 }
 
 // The end of a line whose number stands for a code.
@@ -111,7 +102,7 @@ fn targets(table: &[u8], place: usize, count: usize) {
 pub fn window(table: &[u8], place: usize, n: CxlFixedMemory) {
     words::say(b"CXL window\n");
     words::hex_line(b"base address", n.base_addr);
-    bytes_line(b"size", n.size);
+    words::size_line(b"size", n.size);
     ways(n);
     arithmetic(n.interleave_arithmetic);
     granularity(n.interleave_granularity);

@@ -43,6 +43,15 @@ pub fn hex_line(word: &[u8], n: u64) {
     end();
 }
 
+// A field and how many bytes it says, in hexadecimal and in decimal.
+pub fn size_line(word: &[u8], n: u64) {
+    name(word);
+    hex(n);
+    say(b" (");
+    number(n);
+    say(b" bytes)\n");
+}
+
 // A field of flags begins: the names of the bits that are set follow.
 pub fn flags(n: u64) {
     name(b"flags");

@@ -8,7 +8,7 @@ use lib.Dec.{eqb, leb}
 use borrow.Author.Tests.{le-leb}
 use Rattle.format.specs.Bytes.{pick, both, all, at, value, part}
 use Rattle.format.specs.Layout.{asIs, fixedOk}
-use Rattle.format.specs.Form.{acpi, pci, oldRintc, layout, ranges}
+use Rattle.format.specs.Form.{acpi, pci, rintc, oldRintc, layout, ranges}
 use Rattle.format.specs.Row.{initiators, formIn}
 use Rattle.format.specs.Read.{sound, shown}
 use Rattle.laws.proofs.Tests.{both-right}
@@ -21,7 +21,7 @@ use Rattle.srat.specs.declared.MemoryAffinity.{MemoryAffinity}
 use Rattle.srat.specs.declared.GenericInitiator.{GenericInitiator}
 use Rattle.srat.specs.declared.RintcAffinity.{RintcAffinity}
 use Rattle.srat.specs.declared.OldRintcAffinity.{OldRintcAffinity}
-use Rattle.srat.specs.Srat.{handleFixed, handleForm, handleType, memoryNode, initiatorNode, rintcNode, oldRintcNode, memoryShown, initiatorShown, rintcShown, oldRintcShown}
+use Rattle.srat.specs.Srat.{handleFixed, rintcFixed, handleForm, handleType, memoryNode, initiatorNode, rintcNode, oldRintcNode, memoryShown, initiatorShown, rintcShown, oldRintcShown}
 
 -- the number in the byte of the handle says the form of an initiator
 pub initiator-form : (bs : List ℕ) → formIn initiators bs ≡ pick (eqb (value (part bs 3 1)) 0) acpi pci
@@ -56,10 +56,14 @@ initiator-sound bs h = rw (initiator-form bs) (by (eqb (value (part bs 3 1)) 0))
     by false =
         rw (fields-at asIs (layout pci) bs 0, le-leb (value (part bs 11 1) / 8) 31 (omega (arith, l)), le-leb (value (part bs 11 1) % 8) 7 (omega (arith, l)))
 
--- the flags alone have a range
-pub old-rintc-sound : (bs : List ℕ) → sound oldRintc bs ≡ both (fixedOk (layout oldRintc) bs) (leb (value (part bs 8 4)) 1)
+pub rintc-fixed : (bs : List ℕ) → fixedOk (layout rintc) bs ≡ rintcFixed 20 bs
+unfolding layout
+rintc-fixed bs = rw (fixed-now, both-right (eqb (value (part bs 2 2)) 0))
+
+-- without its domain, the flags alone have a range
+pub old-rintc-sound : (bs : List ℕ) → sound oldRintc bs ≡ both (rintcFixed 16 bs) (leb (value (part bs 8 4)) 1)
 unfolding sound layout ranges
-old-rintc-sound bs = rw (fields-at asIs (layout oldRintc) bs 0)
+old-rintc-sound bs = rw (fixed-now, fields-at asIs (layout oldRintc) bs 0, both-right (eqb (value (part bs 2 2)) 0))
 
 pub memory-shown : (m : MemoryAffinity) → memoryShown m ≡ shown (memoryNode m .form) (memoryNode m .values)
 unfolding shown

@@ -4,7 +4,7 @@ use mathlib.Core.List.{List, [], _∷_, _++_}
 use mathlib.Core.Bool.{Bool, false}
 use lib.Bits.{bitOr}
 use lib.Dec.{eqb}
-use Rattle.format.specs.Bytes.{pick, value, part}
+use Rattle.format.specs.Bytes.{pick, all, value, part}
 use Rattle.format.specs.Form.{Form, memory, acpi, pci, rintc, oldRintc}
 use Rattle.format.specs.Node.{Node, node}
 use Rattle.srat.specs.declared.Handle.{Handle}
@@ -36,6 +36,10 @@ unfoldable pub handleFixed : List ℕ → Bool
 handleFixed bs =
     let ty : ℕ = value (part bs 3 1) in
     pick (eqb ty 0) (eqb (value (part bs 20 4)) 0) (pick (eqb ty 1) (eqb (value (part bs 12 12)) 0) false)
+
+-- a RINTC of n bytes, with its domain or without: the type, the length, two zeros
+abbrev pub rintcFixed : ℕ → List ℕ → Bool
+rintcFixed n bs = all (eqb (value (part bs 0 1)) 7 ∷ eqb (value (part bs 1 1)) n ∷ eqb (value (part bs 2 2)) 0 ∷ [])
 
 -- ---- nodes of the format
 

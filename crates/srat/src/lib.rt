@@ -14,7 +14,7 @@ ghost use Rattle.format.specs.Normal.{callsOfNode};
 ghost use Rattle.format.specs.Field.{badField};
 ghost use Rattle.format.specs.Row.{initiators, formIn};
 ghost use Rattle.format.specs.Read.{sound};
-ghost use Rattle.srat.specs.Srat.{handleFixed, memoryNode, initiatorNode, rintcNode, oldRintcNode, memoryShown, initiatorShown, rintcShown, oldRintcShown, memoryOf, memoryWith, initiatorOf, initiatorWith, rintcOf, rintcWith};
+ghost use Rattle.srat.specs.Srat.{handleFixed, rintcFixed, memoryNode, initiatorNode, rintcNode, oldRintcNode, memoryShown, initiatorShown, rintcShown, oldRintcShown, memoryOf, memoryWith, initiatorOf, initiatorWith, rintcOf, rintcWith};
 
 pub struct MemoryAffinity {
     pub proximity_domain: u32,
@@ -762,14 +762,14 @@ impl RintcAffinity {
         }
     }
 
-    // Zeros and fixed values of a record.
-    fn is_fixed(row: &[u8]) -> bool
-        ensures { λ r. ⌜ r ≡ fixedOk (layout rintc) (now (row .entry)) ⌝ }
+    // Zeros and fixed values of a record of this length, with its domain or without.
+    fn is_fixed(row: &[u8], len: usize) -> bool
+        ensures { λ r. ⌜ r ≡ rintcFixed len (now (row .entry)) ⌝ }
     {
         if field::get_u8(row, 0) != Self::TYPE {
             return false;
         }
-        if field::get_u8(row, 1) as usize != Self::LEN {
+        if field::get_u8(row, 1) as usize != len {
             return false;
         }
         field::get_u16(row, 2) == 0
@@ -830,7 +830,7 @@ impl RintcAffinity {
     pub fn is_sound(row: &[u8]) -> bool
         ensures { λ r. ⌜ r ≡ sound rintc (now (row .entry)) ⌝ }
     {
-        if !Self::is_fixed(row) {
+        if !Self::is_fixed(row, Self::LEN) {
             return false;
         }
         Self::get(row, 0).bad_field() == 0
@@ -847,8 +847,6 @@ pub struct OldRintcAffinity {
 impl OldRintcAffinity {
     // The kind byte that named it, which is retired.
     pub const KIND: u8 = 35;
-
-    pub const TYPE: u8 = RintcAffinity::TYPE;
 
     pub const LEN: usize = 16;
 
@@ -882,24 +880,11 @@ impl OldRintcAffinity {
         field::copy_u64(answer, at, &vs);
     }
 
-    // Zeros and fixed values of a record.
-    fn is_fixed(row: &[u8]) -> bool
-        ensures { λ r. ⌜ r ≡ fixedOk (layout oldRintc) (now (row .entry)) ⌝ }
-    {
-        if field::get_u8(row, 0) != Self::TYPE {
-            return false;
-        }
-        if field::get_u8(row, 1) as usize != Self::LEN {
-            return false;
-        }
-        field::get_u16(row, 2) == 0
-    }
-
     // Whether a record is fixed where it has to be, and no field outside its range.
     pub fn is_sound(row: &[u8]) -> bool
         ensures { λ r. ⌜ r ≡ sound oldRintc (now (row .entry)) ⌝ }
     {
-        if !Self::is_fixed(row) {
+        if !RintcAffinity::is_fixed(row, Self::LEN) {
             return false;
         }
         field::get_u32(row, 8) <= Self::FLAGS

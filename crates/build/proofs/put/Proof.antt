@@ -1,6 +1,6 @@
 -- `put` meets its contract: kind by kind, what the called function writes of a window of the body is the record of the format.
 use mathlib.Core.Path.{_≡_, ap, _∙_}
-use Prim.Native.Nat.{ℕ, _+_, _*_}
+use Prim.Native.Nat.{ℕ}
 use mathlib.Core.List.{List}
 use native.Mathlib.Omega.{arith}
 use borrow.Author.Needs.{needs}
@@ -14,7 +14,7 @@ use Rattle.pptt.specs.Processor as pptt
 use Rattle.hmat.specs.Hmat as hmat
 use Rattle.cedt.specs.Cedt as cedt
 use Rattle.build.specs.declared.Change.{Change}
-use Rattle.build.specs.Write.{wrote, changeOf}
+use Rattle.build.specs.Write.{targetAt, wrote, changeOf}
 use Rattle.build.proofs.Plains.{plain-appended, processor-appended, cache-appended, matrix-appended, side-appended, maths-appended}
 use Rattle.laws.proofs.Shapes.{plain-fld}
 use Rattle.laws.proofs.Fields.{body-window}
@@ -297,7 +297,7 @@ returns-17 c =
     let t = d .before .before .before .before .before in
     let a = t .before .before .before .before .before .args in
     let e = d .before .from-body11 .ensures ∙ body-window WindowTarget (a .bytes .now) 4 (omega arith) in
-    rw (t .enum-told17 .given .1) (d .add-target .ensures ∙ ap (λ (vs : List ℕ). over (a .out .now) (a .s .latest .place + 36 + 4 * a .s .latest .count) (le 4 (at vs 0))) e)
+    rw (t .enum-told17 .given .1) (d .add-target .ensures ∙ ap (λ (vs : List ℕ). over (a .out .now) (targetAt (a .s)) (le 4 (at vs 0))) e)
 
 returns-18 : tie.Need-returns-18
 unfolding wrote width body
