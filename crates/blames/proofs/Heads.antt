@@ -2,14 +2,13 @@
 use mathlib.Core.Path.{_≡_}
 use Prim.Native.Nat.{ℕ, _≤_, _<_}
 use mathlib.Core.List.{List, []}
-use mathlib.Core.Option.{none}
+use mathlib.Core.Option.{none, some}
 use borrow.Author.Tests.{ne-eqb, le-leb, lt-leb, lt-ltb, le-ltb}
 use lib.ListN.{length, drop}
 use Rattle.format.specs.Bytes.{value, part}
-use Rattle.format.specs.Table.{Table, code}
+use Rattle.format.specs.Table.{Table}
 use Rattle.format.specs.Recipe.{cut, tableOf}
 use Rattle.laws.proofs.Bytes.{value-byte}
-use Rattle.laws.proofs.Settings.{table-back}
 use Rattle.blames.specs.Words.{holder, headWords, recordWords, fieldWords}
 
 module _ (r : List ℕ) (place : ℕ) where
@@ -28,9 +27,9 @@ module _ (r : List ℕ) (place : ℕ) where
       inside h = rw (value-byte r 0, e, lt-leb _ _ l, lt-ltb _ _ h)
 
       module _ (h : 28 ≤ place) where
-        pub behind : (t : Table) → value (part r 1 1) ≡ code t → fieldWords r place ≡ recordWords place (holder place (cut t 0 28 (drop 28 r)))
+        pub behind : (t : Table) → tableOf (value (part r 1 1)) ≡ some t → fieldWords r place ≡ recordWords place (holder place (cut t 0 28 (drop 28 r)))
         unfolding fieldWords
-        behind t z = rw (value-byte r 0, e, lt-leb _ _ l, le-ltb _ _ h, value-byte r 1, z, table-back t)
+        behind t z = rw (value-byte r 0, e, lt-leb _ _ l, le-ltb _ _ h, value-byte r 1, z)
 
         pub no-table : tableOf (value (part r 1 1)) ≡ none → fieldWords r place ≡ []
         unfolding fieldWords holder recordWords

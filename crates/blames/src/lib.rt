@@ -16,6 +16,7 @@ use cedt::CxlHostBridge;
 use cedt::CxlTarget;
 use cedt::XorInterleaveMath;
 use cedt::XorMap;
+use header::Coded;
 use header::Table;
 use header::TableHeader;
 use hmat::Cell;
@@ -370,11 +371,8 @@ pub fn field(recipe: &[u8], place: usize, out: &mut [u8], n: usize) -> usize
     if place < recipe::HEAD_LEN {
         return in_head(place, out, n);
     }
-    match field::get_u8(recipe, 1 + TableHeader::CODE_AT) {
-        Table::PPTT_CODE => behind_head(recipe, Table::Pptt, place, out, n),
-        Table::SRAT_CODE => behind_head(recipe, Table::Srat, place, out, n),
-        Table::HMAT_CODE => behind_head(recipe, Table::Hmat, place, out, n),
-        Table::CEDT_CODE => behind_head(recipe, Table::Cedt, place, out, n),
-        _ => nothing(out, n),
+    match Table::of_code(field::get_u8(recipe, 1 + TableHeader::CODE_AT)) {
+        Coded::Table(table) => behind_head(recipe, table, place, out, n),
+        Coded::Nothing => nothing(out, n),
     }
 }

@@ -53,6 +53,7 @@ use Rattle.cedt.proofs.CxlTarget.put_body.Reads as CxlTarget-put-body
 use Rattle.cedt.proofs.XorInterleaveMath.new.Reads as XorInterleaveMath-new
 use Rattle.cedt.proofs.XorInterleaveMath.len.Reads as XorInterleaveMath-len
 use Rattle.cedt.proofs.XorInterleaveMath.put.Reads as XorInterleaveMath-put
+use Rattle.cedt.proofs.XorInterleaveMath.is_full.Reads as XorInterleaveMath-is-full
 use Rattle.cedt.proofs.XorInterleaveMath.add_xormap.Reads as XorInterleaveMath-add-xormap
 use Rattle.cedt.proofs.XorInterleaveMath.get.Reads as XorInterleaveMath-get
 use Rattle.cedt.proofs.XorInterleaveMath.xormap.Reads as XorInterleaveMath-xormap
@@ -164,6 +165,7 @@ pub record Unique : Type 0 where
   XorInterleaveMath-new : Fixes XorInterleaveMath-new.Learnt (λ k x p. x)
   XorInterleaveMath-len : Fixes XorInterleaveMath-len.Learnt (λ k x p. x)
   XorInterleaveMath-put : Fixes XorInterleaveMath-put.Learnt (λ k x p. p .1 .0 .now)
+  XorInterleaveMath-is-full : Fixes XorInterleaveMath-is-full.Learnt (λ k x p. x)
   XorInterleaveMath-add-xormap : Fixes XorInterleaveMath-add-xormap.Learnt (λ k x p. p .0 .now)
   XorInterleaveMath-get : Fixes XorInterleaveMath-get.Learnt (λ k x p. x)
   XorInterleaveMath-xormap : Fixes XorInterleaveMath-xormap.Learnt (λ k x p. x)
@@ -219,6 +221,7 @@ unique =
       XorInterleaveMath-new = λ k a x y p q. sole;
       XorInterleaveMath-len = λ k a x y p q. sole;
       XorInterleaveMath-put = λ k a x y p q. sole;
+      XorInterleaveMath-is-full = λ k a x y p q. sole;
       XorInterleaveMath-add-xormap = λ k a x y p q. sole;
       XorInterleaveMath-get = λ k a x y p q. one-maths x y _;
       XorInterleaveMath-xormap = λ k a x y p q. one-map x y _;

@@ -4,6 +4,7 @@
 // What a record lists (targets, maps) lies in the table alone: a node holds the fields before it and what settles the count.
 ghost use mathlib.Core.Path.{_≡_};
 ghost use Prim.Native.Nat.{_+_, _-_, _*_, _^_, min};
+ghost use lib.Dec.{leb};
 ghost use lib.ListN.{length, drop};
 ghost use Rattle.format.specs.Bytes.{le, value, part, over};
 ghost use Rattle.format.specs.Layout.{asIs, fields, fixedOk};
@@ -250,6 +251,9 @@ pub enum InterleaveGranularity {
 }
 
 impl InterleaveGranularity {
+    // the highest number, which windows and XOR maths have in common
+    const MAX: u8 = 6;
+
     pub fn number(self) -> u8
         ensures { λ r. ⌜ r ≡ granularityNumber self ⌝ }
     {
@@ -337,10 +341,8 @@ impl CxlFixedMemory {
 
     pub const FIXED_CONFIGURATION: u16 = 0x10;
 
-    // the highest arithmetic and granularity, and all restrictions together
+    // the highest arithmetic, and all restrictions together
     const MAX_ARITHMETIC: u8 = 1;
-
-    const MAX_GRANULARITY: u32 = 6;
 
     const MAX_RESTRICTIONS: u16 = 31;
 
@@ -601,7 +603,7 @@ impl CxlFixedMemory {
         if Self::MAX_ARITHMETIC < self.interleave_arithmetic {
             return 1 + Self::ARITHMETIC_AT;
         }
-        if Self::MAX_GRANULARITY < self.interleave_granularity {
+        if (InterleaveGranularity::MAX as u32) < self.interleave_granularity {
             return 1 + Self::GRANULARITY_AT;
         }
         if Self::MAX_RESTRICTIONS < self.window_restrictions {
@@ -680,9 +682,7 @@ impl XorInterleaveMath {
     // How many values a reading call shows.
     pub const FIELDS: usize = 2;
 
-    pub const MAX_XORMAPS: u8 = 255;
-
-    const MAX_GRANULARITY: u8 = 6;
+    const MAX_XORMAPS: u8 = 255;
 
     // Where the field stands in a body.
     pub const GRANULARITY_AT: usize = 0;
@@ -736,6 +736,13 @@ impl XorInterleaveMath {
     {
         let place = Self::map_place(at, i);
         field::put_u64(out, place, map);
+    }
+
+    // Whether a record of n maps takes no more.
+    pub fn is_full(n: u8) -> bool
+        ensures { λ r. ⌜ r ≡ leb 255 n ⌝ }
+    {
+        Self::MAX_XORMAPS <= n
     }
 
     // Makes of the record of n maps, at a place, that of one map more.
@@ -822,7 +829,7 @@ impl XorInterleaveMath {
     pub fn bad_field(self) -> usize
         ensures { λ r. ⌜ r ≡ badField (mathsHead self) ⌝ }
     {
-        if Self::MAX_GRANULARITY < self.granularity {
+        if InterleaveGranularity::MAX < self.granularity {
             return 1 + Self::GRANULARITY_AT;
         }
         0

@@ -1,14 +1,18 @@
 -- Two outcomes that meet one contract are equal: a sum is its number, a table what it stands for; the length of headers is that of one header, and the front of a table that of no records.
-use mathlib.Core.Path.{_≡_, refl}
+use mathlib.Core.Path.{_≡_, refl, ap}
 use Prim.Native.Nat.{ℕ}
+use mathlib.Core.Option.{Option, none, some}
 use lib.ListN.{length, replicate}
+use Rattle.format.specs.Table as format
 use Rattle.laws.specs.Unique.{Fixes}
 use Rattle.laws.proofs.Sole.{sole, sole-meant}
 use Rattle.header.specs.declared.Checksum.{Checksum}
 use Rattle.header.specs.declared.Table.{Table}
 use Rattle.header.specs.declared.Table.the-variants.{Pptt, Srat, Hmat, Cedt}
+use Rattle.header.specs.declared.Coded.{Coded}
+use Rattle.header.specs.declared.Coded.the-variants as coded
 use Rattle.header.specs.declared.TableHeader.{TableHeader}
-use Rattle.header.specs.Header.{meant, tableNamed, headerBytes, Sized, headerOf}
+use Rattle.header.specs.Header.{meant, codedAs, tableNamed, headerBytes, Sized, headerOf}
 use Rattle.header.proofs.limit.Reads as limit
 use Rattle.header.proofs.Checksum.default.Reads as Checksum-default
 use Rattle.header.proofs.Checksum.append.Reads as Checksum-append
@@ -17,6 +21,7 @@ use Rattle.header.proofs.Checksum.add.Reads as Checksum-add
 use Rattle.header.proofs.Checksum.sub.Reads as Checksum-sub
 use Rattle.header.proofs.Checksum.raw_value.Reads as Checksum-raw-value
 use Rattle.header.proofs.Checksum.value.Reads as Checksum-value
+use Rattle.header.proofs.Table.of_code.Reads as Table-of-code
 use Rattle.header.proofs.Table.signature.Reads as Table-signature
 use Rattle.header.proofs.Table.revision.Reads as Table-revision
 use Rattle.header.proofs.Table.front.Reads as Table-front
@@ -37,6 +42,18 @@ table-back Pptt = refl
 table-back Srat = refl
 table-back Hmat = refl
 table-back Cedt = refl
+
+abbrev codedOf : Option format.Table → Coded
+codedOf none = coded.Nothing
+codedOf (some t) = coded.Table (tableNamed t)
+
+coded-back : (c : Coded) → codedOf (codedAs c) ≡ c
+coded-back (coded.Table t) = ap coded.Table (table-back t)
+coded-back coded.Nothing = refl
+
+-- `Table::of_code`
+one-code : (a b : Coded) (t : Option format.Table) → codedAs a ≡ t → codedAs b ≡ t → a ≡ b
+one-code = sole-meant codedAs codedOf coded-back
 
 -- `Checksum`'s functions
 one-sum : (a b : Checksum) (n : ℕ) → a .value ≡ n → b .value ≡ n → a ≡ b
@@ -65,6 +82,7 @@ pub record Unique : Type 0 where
   Checksum-sub : Fixes Checksum-sub.Learnt (λ k x p. x)
   Checksum-raw-value : Fixes Checksum-raw-value.Learnt (λ k x p. x)
   Checksum-value : Fixes Checksum-value.Learnt (λ k x p. x)
+  Table-of-code : Fixes Table-of-code.Learnt (λ k x p. x)
   Table-signature : Fixes Table-signature.Learnt (λ k x p. x)
   Table-revision : Fixes Table-revision.Learnt (λ k x p. x)
   Table-front : Fixes Table-front.Learnt (λ k x p. x)
@@ -91,6 +109,7 @@ unique =
       Checksum-sub = λ k a x y p q. one-sum x y _;
       Checksum-raw-value = λ k a x y p q. sole;
       Checksum-value = λ k a x y p q. sole;
+      Table-of-code = λ k a x y p q. one-code x y _;
       Table-signature = λ k a x y p q. sole;
       Table-revision = λ k a x y p q. sole;
       Table-front = λ k a x y p q. sole;

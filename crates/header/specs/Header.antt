@@ -2,12 +2,15 @@
 use mathlib.Core.Path.{_≡_}
 use Prim.Native.Nat.{ℕ}
 use mathlib.Core.List.{List, _∷_, _++_}
+use mathlib.Core.Option.{Option, none, some}
 use lib.ListN.{length, drop, replicate}
 use Rattle.format.specs.Bytes.{le, value, part, over}
 use Rattle.format.specs.Table.{pptt, srat, hmat, cedt, sign, revision, front}
 use Rattle.format.specs.Table as format
 use Rattle.header.specs.declared.Table.{Table}
 use Rattle.header.specs.declared.Table.the-variants.{Pptt, Srat, Hmat, Cedt}
+use Rattle.header.specs.declared.Coded.{Coded}
+use Rattle.header.specs.declared.Coded.the-variants as coded
 use Rattle.header.specs.declared.TableHeader.{TableHeader}
 
 -- the table that a variant stands for
@@ -16,6 +19,11 @@ meant Pptt = pptt
 meant Srat = srat
 meant Hmat = hmat
 meant Cedt = cedt
+
+-- the table that a number in a head stands for, if one does
+abbrev pub codedAs : Coded → Option format.Table
+codedAs (coded.Table t) = some (meant t)
+codedAs coded.Nothing = none
 
 -- the variant that stands for a table
 abbrev pub tableNamed : format.Table → Table

@@ -5,12 +5,13 @@ ghost use lib.ListN.{length};
 ghost use Rattle.format.specs.Bytes.{le, value, part, sum, over};
 ghost use Rattle.format.specs.Layout.{lay};
 ghost use Rattle.format.specs.Table.{code, sign, revision, tail, told, front, limit};
+ghost use Rattle.format.specs.Recipe.{tableOf};
 ghost use Rattle.format.specs.Build.{checkOf};
 ghost use Rattle.format.specs.Normal.{headCall};
 ghost use Rattle.format.specs.Read.{lengthIn};
 ghost use Rattle.format.specs.Out.{headIn};
 ghost use Rattle.header.specs.declared.TableHeader.{TableHeader};
-ghost use Rattle.header.specs.Header.{meant, identity, headerBytes, Sized, headerOf, headFrom, withChecksum};
+ghost use Rattle.header.specs.Header.{meant, codedAs, identity, headerBytes, Sized, headerOf, headFrom, withChecksum};
 
 // No table is longer.
 pub const LIMIT: usize = 1048576;
@@ -105,13 +106,26 @@ impl Table {
     pub const CEDT_REVISION: u8 = 1;
 
     // The numbers in a head.
-    pub const PPTT_CODE: u8 = 0;
+    const PPTT_CODE: u8 = 0;
 
-    pub const SRAT_CODE: u8 = 1;
+    const SRAT_CODE: u8 = 1;
 
-    pub const HMAT_CODE: u8 = 2;
+    const HMAT_CODE: u8 = 2;
 
-    pub const CEDT_CODE: u8 = 3;
+    const CEDT_CODE: u8 = 3;
+
+    // The table that a number in a head stands for.
+    pub fn of_code(code: u8) -> Coded
+        ensures { λ r. ⌜ codedAs r ≡ tableOf code ⌝ }
+    {
+        match code {
+            Self::PPTT_CODE => Coded::Table(Table::Pptt),
+            Self::SRAT_CODE => Coded::Table(Table::Srat),
+            Self::HMAT_CODE => Coded::Table(Table::Hmat),
+            Self::CEDT_CODE => Coded::Table(Table::Cedt),
+            _ => Coded::Nothing,
+        }
+    }
 
     fn code(self) -> u8
         ensures { λ r. ⌜ r ≡ code (meant self) ⌝ }
@@ -157,6 +171,12 @@ impl Table {
             Table::Cedt => Self::CEDT_FRONT,
         }
     }
+}
+
+// What a number in a head stands for.
+pub enum Coded {
+    Table(Table),
+    Nothing,
 }
 
 // Standard header of the tables.

@@ -62,6 +62,7 @@ use Rattle.hmat.proofs.WritePolicy.number.Reads as WritePolicy-number
 use Rattle.hmat.proofs.MemorySideCache.new.Reads as MemorySideCache-new
 use Rattle.hmat.proofs.MemorySideCache.len.Reads as MemorySideCache-len
 use Rattle.hmat.proofs.MemorySideCache.put.Reads as MemorySideCache-put
+use Rattle.hmat.proofs.MemorySideCache.is_full.Reads as MemorySideCache-is-full
 use Rattle.hmat.proofs.MemorySideCache.grow.Reads as MemorySideCache-grow
 use Rattle.hmat.proofs.MemorySideCache.get.Reads as MemorySideCache-get
 use Rattle.hmat.proofs.MemorySideCache.smbios_handle.Reads as MemorySideCache-smbios-handle
@@ -186,6 +187,7 @@ pub record Unique : Type 0 where
   MemorySideCache-new : Fixes MemorySideCache-new.Learnt (λ k x p. x)
   MemorySideCache-len : Fixes MemorySideCache-len.Learnt (λ k x p. x)
   MemorySideCache-put : Fixes MemorySideCache-put.Learnt (λ k x p. p .1 .0 .now)
+  MemorySideCache-is-full : Fixes MemorySideCache-is-full.Learnt (λ k x p. x)
   MemorySideCache-grow : Fixes MemorySideCache-grow.Learnt (λ k x p. p .0 .now)
   MemorySideCache-get : Fixes MemorySideCache-get.Learnt (λ k x p. x)
   MemorySideCache-smbios-handle : Fixes MemorySideCache-smbios-handle.Learnt (λ k x p. x)
@@ -253,6 +255,7 @@ unique =
       MemorySideCache-new = λ k a x y p q. sole;
       MemorySideCache-len = λ k a x y p q. sole;
       MemorySideCache-put = λ k a x y p q. sole;
+      MemorySideCache-is-full = λ k a x y p q. sole;
       MemorySideCache-grow = λ k a x y p q. sole;
       MemorySideCache-get = λ k a x y p q. one-side x y _;
       MemorySideCache-smbios-handle = λ k a x y p q. one-number x y _;

@@ -5,7 +5,7 @@
 ghost use mathlib.Core.Path.{_≡_};
 ghost use mathlib.Core.List.{_∷_, []};
 ghost use Prim.Native.Nat.{_+_, _-_, _*_, _/_, _^_, min};
-ghost use lib.Dec.{eqb, ltb};
+ghost use lib.Dec.{eqb, leb, ltb};
 ghost use lib.ListN.{length, drop};
 ghost use Rattle.format.specs.Bytes.{le, value, part, over, bits};
 ghost use Rattle.format.specs.Layout.{asIs, fields, fixedOk};
@@ -864,7 +864,7 @@ impl MemorySideCache {
     // How many values a reading call shows.
     pub const FIELDS: usize = 4;
 
-    pub const MAX_HANDLES: u16 = 65535;
+    const MAX_HANDLES: u16 = 65535;
 
     // the highest level, associativity and policy
     const MAX_LEVEL: u32 = 3;
@@ -947,6 +947,13 @@ impl MemorySideCache {
     {
         let place = Self::handle_place(at, i);
         field::put_u16(out, place, handle);
+    }
+
+    // Whether a record of n handles takes no more.
+    pub fn is_full(n: u16) -> bool
+        ensures { λ r. ⌜ r ≡ leb 65535 n ⌝ }
+    {
+        Self::MAX_HANDLES <= n
     }
 
     // Makes of the record of n handles, at a place, that of one handle more.

@@ -30,6 +30,7 @@ use Rattle.pptt.proofs.ProcessorNode.from_body.Reads as ProcessorNode-f
 use Rattle.pptt.proofs.ProcessorNode.put_body.Reads as ProcessorNode-put-body
 use Rattle.pptt.proofs.ProcessorNode.put_fields.Reads as ProcessorNode-put-fields
 use Rattle.pptt.proofs.ProcessorNode.put.Reads as ProcessorNode-put
+use Rattle.pptt.proofs.ProcessorNode.is_full.Reads as ProcessorNode-is-full
 use Rattle.pptt.proofs.ProcessorNode.add_cache.Reads as ProcessorNode-add-cache
 use Rattle.pptt.proofs.ProcessorNode.get.Reads as ProcessorNode-get
 use Rattle.pptt.proofs.ProcessorNode.parent_of.Reads as ProcessorNode-parent-of
@@ -117,6 +118,7 @@ pub record Unique : Type 0 where
   ProcessorNode-put-body : Fixes {S = ℕ × List ℕ} ProcessorNode-put-body.Learnt (λ k x p. (x, p .1 .0 .now))
   ProcessorNode-put-fields : Fixes ProcessorNode-put-fields.Learnt (λ k x p. p .1 .0 .now)
   ProcessorNode-put : Fixes ProcessorNode-put.Learnt (λ k x p. p .1 .0 .now)
+  ProcessorNode-is-full : Fixes ProcessorNode-is-full.Learnt (λ k x p. x)
   ProcessorNode-add-cache : Fixes ProcessorNode-add-cache.Learnt (λ k x p. p .0 .now)
   ProcessorNode-get : Fixes ProcessorNode-get.Learnt (λ k x p. x)
   ProcessorNode-parent-of : Fixes ProcessorNode-parent-of.Learnt (λ k x p. x)
@@ -168,6 +170,7 @@ unique =
       ProcessorNode-put-body = λ k a x y p q l m. sole-pair (sole (l .1) (m .1)) (sole (l .0) (m .0));
       ProcessorNode-put-fields = λ k a x y p q. sole;
       ProcessorNode-put = λ k a x y p q. sole;
+      ProcessorNode-is-full = λ k a x y p q. sole;
       ProcessorNode-add-cache = λ k a x y p q. sole;
       ProcessorNode-get = λ k a x y p q. one-processor x y _;
       ProcessorNode-parent-of = λ k a x y p q. one-parent x y _;

@@ -7,7 +7,7 @@ ghost use mathlib.Core.List.{[]};
 ghost use mathlib.Core.Bool.{true};
 ghost use Prim.Native.Nat.{_-_, _/_, _≤_};
 ghost use lib.Bits.{bitOr};
-ghost use lib.Dec.{eqb};
+ghost use lib.Dec.{eqb, leb};
 ghost use lib.ListN.{length, drop, replicate};
 ghost use Rattle.format.specs.Bytes.{pick, at, over, bits};
 ghost use Rattle.format.specs.Layout.{asIs, fields, fixedOk};
@@ -71,7 +71,7 @@ impl ProcessorNode {
     // How many values a reading call shows.
     pub const FIELDS: usize = 4;
 
-    pub const MAX_RESOURCES: u8 = 58;
+    const MAX_RESOURCES: u8 = 58;
 
     // with as many as it takes
     const LEN_MOST: usize = Self::LEN + Resource::LEN * Self::MAX_RESOURCES as usize;
@@ -283,6 +283,13 @@ impl ProcessorNode {
             return;
         }
         field::put_u32(out, at + (Self::LEN + Resource::LEN * i as usize), c.0);
+    }
+
+    // Whether a record of n resources takes no more.
+    pub fn is_full(n: u8) -> bool
+        ensures { λ r. ⌜ r ≡ leb 58 n ⌝ }
+    {
+        Self::MAX_RESOURCES <= n
     }
 
     // Makes of the record of n resources at a place the record of one more: the list is in the record, not in the node.
@@ -576,6 +583,11 @@ impl CacheNode {
     // How many values a reading call shows.
     pub const FIELDS: usize = 8;
 
+    // the highest allocation and type
+    const MAX_ALLOCATION: u32 = 2;
+
+    const MAX_TYPE: u32 = 2;
+
     // Where the fields stand in a body.
     pub const FLAGS_AT: usize = 0;
 
@@ -777,10 +789,10 @@ impl CacheNode {
         let allocation = self.allocation() as u32;
         let ty = self.cache_type() as u32;
         let policy = self.write_policy() as u32;
-        if 2 < allocation {
+        if Self::MAX_ALLOCATION < allocation {
             return false;
         }
-        if 2 < ty {
+        if Self::MAX_TYPE < ty {
             return false;
         }
         if 32 <= self.attributes {

@@ -10,7 +10,7 @@ use lib.Dec.{eqb, leb, ltb}
 use borrow.Author.Tests.{le-ltb, lt-ltb, eq-eqb, ne-eqb, eqb-true, eqb-false, leb-true}
 use Rattle.format.specs.Bytes.{pick, at, Answer, refused, given, unless, value, part}
 use Rattle.format.specs.Layout.{asIs, width, fieldsWith, fields, refsGood}
-use Rattle.format.specs.Table.{Table, pptt, srat, hmat, cedt, code, front, limit, Head, headOf}
+use Rattle.format.specs.Table.{Table, pptt, srat, hmat, cedt, front, limit, Head, headOf}
 use Rattle.format.specs.Form.{Form, processor, cache, memory, acpi, pci, rintc, oldRintc, domain, matrix, side, bridge, window, xor, typeOf, size}
 use Rattle.format.specs.Node.{Node, sizes}
 use Rattle.format.specs.Kind.{Kind, Processor, Resource, Cache, Memory, Acpi, Pci, Rintc, Domain, Matrix, Initiator, Target, Cell, Side, Handle, Bridge, Window, WindowTarget, Xor, Map, kindNumber, kindOf, noKind, body}
@@ -23,7 +23,6 @@ use Rattle.laws.proofs.Offsets.{fields-at}
 use Rattle.laws.proofs.Grows.{View, seesProcessor, seesMatrix, seesSide, seesWindow, seesXor, seesOther, view, needless, passed}
 use Rattle.laws.proofs.Builds.{kind-home, front-short}
 use Rattle.laws.proofs.Calls.{cut-at}
-use Rattle.laws.proofs.Settings.{table-back}
 use Rattle.laws.proofs.Links.{few-nodes}
 use Rattle.header.specs.declared.Table.the-variants.{Hmat}
 use Rattle.header.specs.Header.{meant, tableNamed}
@@ -350,6 +349,6 @@ module _ (r : List ℕ) where
       unfolding meaning headed
       no-table z = rw (value-byte r 0, e, le-ltb _ _ l, value-byte r 1, z)
 
-      pub headed-by : (t : Table) → value (part r 1 1) ≡ code t → meaning r ≡ whole r (headOf t (part r 2 26))
+      pub headed-by : (t : Table) → tableOf (value (part r 1 1)) ≡ some t → meaning r ≡ whole r (headOf t (part r 2 26))
       unfolding meaning headed
-      headed-by t z = rw (value-byte r 0, e, le-ltb _ _ l, value-byte r 1, z, table-back t)
+      headed-by t z = rw (value-byte r 0, e, le-ltb _ _ l, value-byte r 1, z)

@@ -20,6 +20,7 @@ use cedt::CxlHostBridge;
 use cedt::CxlTarget;
 use cedt::XorInterleaveMath;
 use cedt::XorMap;
+use header::Coded;
 use header::Table;
 use header::TableHeader;
 use hmat::Cell;
@@ -470,7 +471,7 @@ fn resource(types: &[u64], bytes: &[u8], st: State) -> Step
     if !is_cache(types, cache) {
         return Step::Refused(Refusal::WrongKind);
     }
-    if ProcessorNode::MAX_RESOURCES <= n {
+    if ProcessorNode::is_full(n) {
         return Step::Refused(Refusal::FullNode);
     }
     st.grown(own, Resource::LEN, Newest::Processor(n + 1))
@@ -563,7 +564,7 @@ fn handle(st: State) -> Step
     let Newest::Side(n) = newest else {
         return Step::Refused(Refusal::Misplaced);
     };
-    if MemorySideCache::MAX_HANDLES <= n {
+    if MemorySideCache::is_full(n) {
         return Step::Refused(Refusal::FullNode);
     }
     st.grown(st.nodes, SmbiosHandle::LEN, Newest::Side(n + 1))
@@ -606,7 +607,7 @@ fn map(st: State) -> Step
     let Newest::Xor(n) = newest else {
         return Step::Refused(Refusal::Misplaced);
     };
-    if XorInterleaveMath::MAX_XORMAPS <= n {
+    if XorInterleaveMath::is_full(n) {
         return Step::Refused(Refusal::FullNode);
     }
     st.grown(st.nodes, XorMap::LEN, Newest::Xor(n + 1))
@@ -740,14 +741,11 @@ pub fn check(recipe: &[u8]) -> Checked
     if recipe.len() < HEAD_LEN {
         return Checked::Refused(Refusal::Cut, 0);
     }
-    match field::get_u8(recipe, CODE_AT) {
-        Table::PPTT_CODE => {
-            let mut types = [0u64; WORDS];
-            walk(recipe, Table::Pptt, &mut types)
-        }
-        Table::SRAT_CODE => walk(recipe, Table::Srat, &mut [0u64; 1]),
-        Table::HMAT_CODE => walk(recipe, Table::Hmat, &mut [0u64; 1]),
-        Table::CEDT_CODE => walk(recipe, Table::Cedt, &mut [0u64; 1]),
-        _ => Checked::Refused(Refusal::BadField, CODE_AT),
-    }
+    let Coded::Table(table) = Table::of_code(field::get_u8(recipe, CODE_AT)) else {
+        return Checked::Refused(Refusal::BadField, CODE_AT);
+    };
+    let Table::Pptt = table else {
+        return walk(recipe, table, &mut [0u64; 1]);
+    };
+    walk(recipe, table, &mut [0u64; WORDS])
 }

@@ -1,14 +1,14 @@
 -- The form of an initiator by its handle, its fixed values and ranges, and what a reading call shows of a node.
 use mathlib.Core.Path.{_≡_, refl}
-use Prim.Native.Nat.{ℕ, _/_, _%_, _<_}
+use Prim.Native.Nat.{ℕ}
 use mathlib.Core.List.{List, [], _∷_}
 use mathlib.Core.Bool.{Bool, true, false}
-use native.Mathlib.Omega.{arith}
 use lib.Dec.{eqb, leb}
-use borrow.Author.Tests.{le-leb}
-use Rattle.format.specs.Bytes.{pick, both, all, at, value, part}
+use Rattle.format.specs.Bytes.{pick, both, all, value, part}
 use Rattle.format.specs.Layout.{asIs, fixedOk}
 use Rattle.format.specs.Form.{acpi, pci, rintc, oldRintc, layout, ranges}
+use Rattle.format.specs.Kind.{body}
+use Rattle.format.specs.Field.{firstBad, badField}
 use Rattle.format.specs.Row.{initiators, formIn}
 use Rattle.format.specs.Read.{sound, shown}
 use Rattle.laws.proofs.Tests.{both-right}
@@ -21,7 +21,7 @@ use Rattle.srat.specs.declared.MemoryAffinity.{MemoryAffinity}
 use Rattle.srat.specs.declared.GenericInitiator.{GenericInitiator}
 use Rattle.srat.specs.declared.RintcAffinity.{RintcAffinity}
 use Rattle.srat.specs.declared.OldRintcAffinity.{OldRintcAffinity}
-use Rattle.srat.specs.Srat.{handleFixed, rintcFixed, handleForm, handleType, memoryNode, initiatorNode, rintcNode, oldRintcNode, memoryShown, initiatorShown, rintcShown, oldRintcShown}
+use Rattle.srat.specs.Srat.{handleFixed, rintcFixed, handleBad, flagsPlace, handleForm, handleType, memoryNode, initiatorNode, rintcNode, oldRintcNode, memoryShown, initiatorShown, rintcShown, oldRintcShown}
 
 -- the number in the byte of the handle says the form of an initiator
 pub initiator-form : (bs : List ℕ) → formIn initiators bs ≡ pick (eqb (value (part bs 3 1)) 0) acpi pci
@@ -42,19 +42,22 @@ initiator-fixed bs = rw (initiator-form bs) (by (eqb (value (part bs 3 1)) 0) (e
     by false true e f = rw (fixed-now, e, f, both-right)
     by false false e f = rw (fixed-now, e, f)
 
--- flags are what is left to test of an initiator's ranges: device and function share a byte, so that neither can be outside its own
-pub initiator-sound : (bs : List ℕ) → at bs 11 < 256
-    → sound (formIn initiators bs) bs ≡ both (fixedOk (layout (formIn initiators bs)) bs) (leb (value (part bs 24 4)) 3)
-unfolding sound layout ranges
-initiator-sound bs h = rw (initiator-form bs) (by (eqb (value (part bs 3 1)) 0))
+-- the ranges of an initiator: those of its handle first, then the flags, whose place goes by the handle
+pub initiator-bad : (i : GenericInitiator)
+    → badField (initiatorNode i) ≡ pick (eqb (handleBad (i .handle)) 0) (pick (leb (i .flags) 3) 0 (flagsPlace (i .handle))) (handleBad (i .handle))
+unfolding badField firstBad body ranges
+initiator-bad i = by (i .handle) refl
   where
-    l : value (part bs 11 1) < 256
-    l = rw (value-byte bs 11) at h
-
-    by : (b : Bool) → sound (pick b acpi pci) bs ≡ both (fixedOk (layout (pick b acpi pci)) bs) (leb (value (part bs 24 4)) 3)
-    by true = rw (fields-at asIs (layout acpi) bs 0)
-    by false =
-        rw (fields-at asIs (layout pci) bs 0, le-leb (value (part bs 11 1) / 8) 31 (omega (arith, l)), le-leb (value (part bs 11 1) % 8) 7 (omega (arith, l)))
+    by : (h : Handle) → i .handle ≡ h
+        → badField (initiatorNode i) ≡ pick (eqb (handleBad (i .handle)) 0) (pick (leb (i .flags) 3) 0 (flagsPlace (i .handle))) (handleBad (i .handle))
+    by (Acpi hid uid) e = rw e
+    by (Pci segment bus device function) e = rw e (both-ways (leb device 31) (leb function 7))
+      where
+        both-ways : (a b : Bool)
+            → _≡_ {A = ℕ} (pick a (pick b (pick (leb (i .flags) 3) 0 10) 9) 8) (pick (eqb (pick a (pick b 0 9) 8) 0) (pick (leb (i .flags) 3) 0 10) (pick a (pick b 0 9) 8))
+        both-ways true true = refl
+        both-ways true false = refl
+        both-ways false b = refl
 
 pub rintc-fixed : (bs : List ℕ) → fixedOk (layout rintc) bs ≡ rintcFixed 20 bs
 unfolding layout

@@ -3,10 +3,12 @@ use Prim.Native.Nat.{ℕ, _^_}
 use mathlib.Core.List.{List, [], _∷_, _++_}
 use mathlib.Core.Bool.{Bool, false}
 use lib.Bits.{bitOr}
-use lib.Dec.{eqb}
+use lib.Dec.{eqb, leb}
 use Rattle.format.specs.Bytes.{pick, all, value, part}
-use Rattle.format.specs.Form.{Form, memory, acpi, pci, rintc, oldRintc}
+use Rattle.format.specs.Form.{Form, memory, acpi, pci, rintc, oldRintc, any}
 use Rattle.format.specs.Node.{Node, node}
+use Rattle.format.specs.Kind as kind
+use Rattle.format.specs.Field.{badIn}
 use Rattle.srat.specs.declared.Handle.{Handle}
 use Rattle.srat.specs.declared.Handle.the-variants.{Acpi, Pci}
 use Rattle.srat.specs.declared.MemoryAffinity.{MemoryAffinity}
@@ -36,6 +38,16 @@ unfoldable pub handleFixed : List ℕ → Bool
 handleFixed bs =
     let ty : ℕ = value (part bs 3 1) in
     pick (eqb ty 0) (eqb (value (part bs 20 4)) 0) (pick (eqb ty 1) (eqb (value (part bs 12 12)) 0) false)
+
+-- the place of the first field of a handle outside its range, counted from the kind byte; 0 where there is none
+abbrev pub handleBad : Handle → ℕ
+handleBad (Acpi h u) = 0
+handleBad (Pci s b d f) = badIn kind.Pci (any ∷ any ∷ any ∷ leb d 31 ∷ leb f 7 ∷ [])
+
+-- the place of the flags behind a handle, counted from the kind byte
+abbrev pub flagsPlace : Handle → ℕ
+flagsPlace (Acpi h u) = 17
+flagsPlace (Pci s b d f) = 10
 
 -- a RINTC of n bytes, with its domain or without: the type, the length, two zeros
 abbrev pub rintcFixed : ℕ → List ℕ → Bool

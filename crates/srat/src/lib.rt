@@ -4,8 +4,8 @@ ghost use mathlib.Core.Path.{_≡_};
 ghost use mathlib.Core.List.{_∷_, []};
 ghost use Prim.Native.Nat.{_%_};
 ghost use lib.ListN.{length, drop};
-ghost use lib.Dec.{eqb, leb};
-ghost use Rattle.format.specs.Bytes.{pick, value, part, over};
+ghost use lib.Dec.{eqb};
+ghost use Rattle.format.specs.Bytes.{value, part, over};
 ghost use Rattle.format.specs.Layout.{two, number, asIs, fields, fixedOk};
 ghost use Rattle.format.specs.Form.{memory, acpi, pci, rintc, oldRintc, size, layout};
 ghost use Rattle.format.specs.Node.{node, bytes, nodeAt};
@@ -14,7 +14,7 @@ ghost use Rattle.format.specs.Normal.{callsOfNode};
 ghost use Rattle.format.specs.Field.{badField};
 ghost use Rattle.format.specs.Row.{initiators, formIn};
 ghost use Rattle.format.specs.Read.{sound};
-ghost use Rattle.srat.specs.Srat.{handleFixed, rintcFixed, memoryNode, initiatorNode, rintcNode, oldRintcNode, memoryShown, initiatorShown, rintcShown, oldRintcShown, memoryOf, memoryWith, initiatorOf, initiatorWith, rintcOf, rintcWith};
+ghost use Rattle.srat.specs.Srat.{handleFixed, rintcFixed, handleBad, flagsPlace, memoryNode, initiatorNode, rintcNode, oldRintcNode, memoryShown, initiatorShown, rintcShown, oldRintcShown, memoryOf, memoryWith, initiatorOf, initiatorWith, rintcOf, rintcWith};
 
 pub struct MemoryAffinity {
     pub proximity_domain: u32,
@@ -277,6 +277,43 @@ impl Handle {
             Self::ACPI => field::get_u32(row, 20) == 0,
             Self::PCI => Self::is_pci_fixed(row),
             _ => false,
+        }
+    }
+
+    // The place of its first field outside its range, counted from the kind byte; 0 for none.
+    fn bad_field(self) -> usize
+        ensures { λ r. ⌜ r ≡ handleBad self ⌝ }
+    {
+        let Handle::Pci {
+            segment: _,
+            bus: _,
+            device,
+            function,
+        } = self
+        else {
+            return 0;
+        };
+        if Self::MAX_DEVICE < device {
+            return 1 + GenericInitiator::DEVICE_AT;
+        }
+        if Self::MAX_FUNCTION < function {
+            return 1 + GenericInitiator::FUNCTION_AT;
+        }
+        0
+    }
+
+    // The place of the flags behind it, counted from the kind byte.
+    fn flags_place(self) -> usize
+        ensures { λ r. ⌜ r ≡ flagsPlace self ⌝ }
+    {
+        match self {
+            Handle::Acpi { hid: _, uid: _ } => 1 + GenericInitiator::ACPI_FLAGS_AT,
+            Handle::Pci {
+                segment: _,
+                bus: _,
+                device: _,
+                function: _,
+            } => 1 + GenericInitiator::PCI_FLAGS_AT,
         }
     }
 }
@@ -617,45 +654,19 @@ impl GenericInitiator {
         }
     }
 
-    fn bad_acpi(flags: u32) -> usize
-        ensures { λ r. ⌜ r ≡ pick (leb flags 3) 0 17 ⌝ }
-    {
-        if Self::FLAGS < flags {
-            return 1 + Self::ACPI_FLAGS_AT;
-        }
-        0
-    }
-
-    fn bad_pci(device: u8, function: u8, flags: u32) -> usize
-        ensures { λ r. ⌜ r ≡ pick (leb device 31) (pick (leb function 7) (pick (leb flags 3) 0 10) 9) 8 ⌝ }
-    {
-        if Handle::MAX_DEVICE < device {
-            return 1 + Self::DEVICE_AT;
-        }
-        if Handle::MAX_FUNCTION < function {
-            return 1 + Self::FUNCTION_AT;
-        }
-        if Self::FLAGS < flags {
-            return 1 + Self::PCI_FLAGS_AT;
-        }
-        0
-    }
-
     // The place of the first field outside its range, counted from the kind byte; 0 for none.
     pub fn bad_field(self) -> usize
         ensures { λ r. ⌜ r ≡ badField (initiatorNode self) ⌝ }
     {
         let handle = self.handle;
-        let flags = self.flags;
-        match handle {
-            Handle::Acpi { hid: _, uid: _ } => Self::bad_acpi(flags),
-            Handle::Pci {
-                segment: _,
-                bus: _,
-                device,
-                function,
-            } => Self::bad_pci(device, function, flags),
+        let bad = handle.bad_field();
+        if bad != 0 {
+            return bad;
         }
+        if Self::FLAGS < self.flags {
+            return handle.flags_place();
+        }
+        0
     }
 
     // Whether a record is fixed where it has to be, and no field outside its range.
@@ -665,7 +676,7 @@ impl GenericInitiator {
         if !Self::is_fixed(row) {
             return false;
         }
-        field::get_u32(row, 24) <= Self::FLAGS
+        Self::get(row, 0).bad_field() == 0
     }
 }
 

@@ -1,21 +1,34 @@
 -- `check` meets its contract: the head is judged, and then the records behind it.
 use mathlib.Core.Path.{_≡_, sym, ap, _∙_}
+use Prim.Native.Nat.{ℕ, _<_}
+use mathlib.Core.List.{[], _∷_}
 use mathlib.Core.Option.{none}
 use native.Mathlib.Omega.{arith}
 use borrow.Author.Needs.{needs}
-use borrow.Author.Tests.{ne-eqb}
+use denote.Enum.Declared.{tagOf}
+use types.Run.{OneOf, miss}
 use Rattle.format.specs.Bytes.{value, part}
-use Rattle.format.specs.Table.{Table, pptt, srat, hmat, cedt, code}
+use Rattle.format.specs.Table.{pptt, code}
 use Rattle.format.specs.Recipe.{tableOf}
+use Rattle.header.specs.declared.Table.{Table}
+use Rattle.header.specs.declared.Table.the-variants.{Pptt, Srat, Hmat, Cedt}
+use Rattle.header.specs.Header.{meant, codedAs}
+use Rattle.header.proofs.Table.{the-type}
 use Rattle.recipe.specs.Answers.{outlined}
 use Rattle.recipe.proofs.Types.{typed-none}
 use Rattle.recipe.proofs.Walks.{no-head, cut-head, no-table, headed-by}
 use Rattle.recipe.proofs.check.Statement.{statement}
 use Rattle.recipe.proofs.check.Tie as tie
 
+positive : (n : ℕ) → 0 < n → n ≡ 0 → ⊥
+positive n l e = omega arith
+
 -- another table has no types to hold
-other-code : {A : Type 0} (t : Table) → t ≡ pptt → (code t ≡ 0 → ⊥) → A
-other-code t e n = absurd (n (ap code e))
+other : {A : Type 0} (t : Table) → OneOf (1 ∷ 2 ∷ 3 ∷ []) (tagOf the-type t) → meant t ≡ pptt → A
+other Pptt h e = absurd (miss (1 ∷ 2 ∷ 3 ∷ []) 0 tt h)
+other Srat h e = absurd (positive 1 (omega arith) (ap code e))
+other Hmat h e = absurd (positive 2 (omega arith) (ap code e))
+other Cedt h e = absurd (positive 3 (omega arith) (ap code e))
 
 returns : tie.Need-returns
 returns c = sym (ap outlined (no-head _ (λ e. c .if1 .taken (c .before .get-u8 .ensures ∙ e))))
@@ -27,49 +40,35 @@ returns-2 c =
 
 returns-3 : tie.Need-returns-3
 returns-3 c =
-    let w = c .before in
-    let m = w .before .before in
-    let g = m .before in
+    let o = c .before .before in
+    let g = o .before in
     let b = g .before in
     let a = b .before in
-    w .walk .ensures ∙ sym (ap outlined (headed-by _ (sym (a .before .get-u8 .ensures) ∙ a .if1 .left) (b .if2 .left) pptt (sym (g .get-u82 .ensures) ∙ m .match .keys1)))
+    let r = a .before .before .before .args .recipe .now in
+    let z : tableOf (value (part r 1 1)) ≡ none = rw (← g .get-u82 .ensures) (sym (o .of-code .ensures) ∙ ap codedAs (c .enum-told .given .1)) in
+    sym (ap outlined (no-table r (sym (a .before .get-u8 .ensures) ∙ a .if1 .left) (b .if2 .left) z))
 
 returns-4 : tie.Need-returns-4
 returns-4 c =
     let w = c .before in
-    let m = w .before .before in
-    let g = m .before in
+    let k = w .before .before .before .before in
+    let o = k .before .before in
+    let g = o .before in
     let b = g .before in
     let a = b .before in
-    w .walk2 .ensures ∙ sym (ap outlined (headed-by _ (sym (a .before .get-u8 .ensures) ∙ a .if1 .left) (b .if2 .left) srat (sym (g .get-u82 .ensures) ∙ m .match .keys2)))
+    let z = rw (g .get-u82 .ensures) at (sym (o .of-code .ensures) ∙ ap codedAs (k .table .given .1)) in
+    w .walk .ensures ∙ sym (ap outlined (headed-by _ (sym (a .before .get-u8 .ensures) ∙ a .if1 .left) (b .if2 .left) _ z))
 
 returns-5 : tie.Need-returns-5
 returns-5 c =
     let w = c .before in
-    let m = w .before .before in
-    let g = m .before in
+    let k = w .before .before .before .before .before in
+    let o = k .before .before in
+    let g = o .before in
     let b = g .before in
     let a = b .before in
-    w .walk3 .ensures ∙ sym (ap outlined (headed-by _ (sym (a .before .get-u8 .ensures) ∙ a .if1 .left) (b .if2 .left) hmat (sym (g .get-u82 .ensures) ∙ m .match .keys3)))
-
-returns-6 : tie.Need-returns-6
-returns-6 c =
-    let w = c .before in
-    let m = w .before .before in
-    let g = m .before in
-    let b = g .before in
-    let a = b .before in
-    w .walk4 .ensures ∙ sym (ap outlined (headed-by _ (sym (a .before .get-u8 .ensures) ∙ a .if1 .left) (b .if2 .left) cedt (sym (g .get-u82 .ensures) ∙ m .match .keys4)))
-
-returns-7 : tie.Need-returns-7
-returns-7 c =
-    let o = c .match .rest in
-    let g = c .before in
-    let b = g .before in
-    let a = b .before in
-    let r = a .before .before .before .args .recipe .now in
-    let z : tableOf (value (part r 1 1)) ≡ none = rw (← g .get-u82 .ensures, ne-eqb _ _ (o .0 .0 .0 .1), ne-eqb _ _ (o .0 .0 .1), ne-eqb _ _ (o .0 .1), ne-eqb _ _ (o .1)) in
-    sym (ap outlined (no-table r (sym (a .before .get-u8 .ensures) ∙ a .if1 .left) (b .if2 .left) z))
+    let z = rw (g .get-u82 .ensures) at (sym (o .of-code .ensures) ∙ ap codedAs (k .table .given .1)) in
+    w .walk2 .ensures ∙ sym (ap outlined (headed-by _ (sym (a .before .get-u8 .ensures) ∙ a .if1 .left) (b .if2 .left) _ z))
 
 pub check-spec : {M : Type 1} → statement M
 check-spec =
@@ -79,16 +78,14 @@ check-spec =
     returns
     returns-2
     (λ c κs. search needs)
+    (λ c κs. search needs)
+    (λ c. search needs)
+    (λ c. search needs)
+    returns-3
+    (λ c. search needs)
+    (λ c. search needs)
+    (λ c κs e. let m = c .before in other (m .before .before .table .given .0 .0) (m .match2 .keys2) e)
+    returns-4
     (λ c. search needs)
     (λ c κs e. typed-none 820 (omega arith))
-    (λ c. search needs)
-    (λ c κs e. other-code srat e (λ z. omega arith))
-    (λ c. search needs)
-    (λ c κs e. other-code hmat e (λ z. omega arith))
-    (λ c. search needs)
-    (λ c κs e. other-code cedt e (λ z. omega arith))
-    returns-3
-    returns-4
-    returns-5
-    returns-6
-    returns-7)
+    returns-5)

@@ -2,7 +2,7 @@
 use mathlib.Core.Path.{_≡_, sym, ap, _∙_}
 use native.Mathlib.Omega.{arith}
 use borrow.Author.Needs.{needs}
-use borrow.Author.Tests.{eq-eqb, ne-eqb, le-ltb, lt-ltb, le-leb, lt-leb}
+use borrow.Author.Tests.{eq-eqb, ne-eqb, le-ltb, lt-ltb, leb-false}
 use Rattle.format.specs.Bytes.{at}
 use Rattle.format.specs.Layout.{fields}
 use Rattle.format.specs.Kind.{Resource, body}
@@ -51,7 +51,8 @@ returns-4 c t ns p e b q w =
 
 returns-5 : tie.Need-returns-5
 returns-5 c t ns p e b q w =
-    let k = c .before in
+    let o = c .before in
+    let k = o .before in
     let l = k .before .before in
     let d = l .before .before in
     let g = d .before .before .before in
@@ -59,12 +60,13 @@ returns-5 c t ns p e b q w =
     let a = n .before .before .before .before .args in
     let v : g .from-body .result .cache .0 ≡ refers Resource (a .bytes .now) = ap (λ vs. at vs 0) (g .from-body .ensures) in
     sym (resource-turn t (a .st) p (a .bytes .now) _ (a .types .now) ns e (n .newest .given .1) (w .typed (sym (kind-home t b Resource q)))
-    ∙ rw (← v, ne-eqb _ _ (d .if1 .left), lt-ltb _ _ (l .if2 .left), passed (k .before .is-cache .ensures) (k .if3 .left), le-leb _ _ (c .if4 .taken)))
+    ∙ rw (← v, ne-eqb _ _ (d .if1 .left), lt-ltb _ _ (l .if2 .left), passed (k .before .is-cache .ensures) (k .if3 .left), sym (o .is-full .ensures) ∙ c .if4 .taken))
 
 returns-6 : tie.Need-returns-6
 returns-6 c t ns p e b q w =
     let f = c .before in
-    let k = f .before in
+    let o = f .before in
+    let k = o .before in
     let l = k .before .before in
     let d = l .before .before in
     let g = d .before .before .before in
@@ -73,7 +75,13 @@ returns-6 c t ns p e b q w =
     let v : g .from-body .result .cache .0 ≡ refers Resource (a .bytes .now) = ap (λ vs. at vs 0) (g .from-body .ensures) in
     rw (c .grown .ensures)
     (sym (resource-turn t (a .st) p (a .bytes .now) _ (a .types .now) ns e (n .newest .given .1) (w .typed (sym (kind-home t b Resource q)))
-    ∙ rw (← v, ne-eqb _ _ (d .if1 .left), lt-ltb _ _ (l .if2 .left), passed (k .before .is-cache .ensures) (k .if3 .left), lt-leb _ _ (f .if4 .left))))
+    ∙ rw (← v, ne-eqb _ _ (d .if1 .left), lt-ltb _ _ (l .if2 .left), passed (k .before .is-cache .ensures) (k .if3 .left), sym (o .is-full .ensures) ∙ f .if4 .left)))
+
+more : tie.Need-add-t18
+more c =
+    let o = c .before in
+    let n = o .before .before .before .before .before .before .before .before .before .before in
+    record { fits = omega (arith, leb-false 58 (n .newest .given .0 .0) (sym (o .is-full .ensures) ∙ c .if4 .left)) }
 
 pub resource-spec : {M : Type 1} → statement M
 resource-spec =
@@ -87,7 +95,8 @@ resource-spec =
     returns-3
     (λ c κs. omega (arith, c .before .before .if1 .left))
     returns-4
+    (λ c κs. search needs)
     returns-5
-    (λ c. search needs)
+    more
     (λ c κs. search needs)
     returns-6)

@@ -58,6 +58,7 @@ bad-field-spec =
     (λ c. search needs)
     returns-2
     (λ c. search needs)
+    (λ c. search needs)
     returns-3
     (λ c. search needs)
     returns-4

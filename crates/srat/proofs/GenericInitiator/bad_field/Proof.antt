@@ -1,19 +1,27 @@
--- `GenericInitiator::bad_field` meets its contract, by the handle.
+-- `GenericInitiator::bad_field` meets its contract: the handle's fields, then the flags.
 use borrow.Author.Needs.{needs}
-use Rattle.format.specs.Form.{ranges}
-use Rattle.format.specs.Kind.{body}
-use Rattle.format.specs.Field.{firstBad, badField}
+use borrow.Author.Tests.{eq-eqb, ne-eqb, le-leb, lt-leb}
+use Rattle.srat.proofs.Laws.{initiator-bad}
 use Rattle.srat.proofs.GenericInitiator.bad_field.Statement.{statement}
 use Rattle.srat.proofs.GenericInitiator.bad_field.Tie as tie
 
+returns-2 : tie.Need-returns-2
+returns-2 c =
+    let d = c .before in
+    let a = d .before .before in
+    rw (initiator-bad, ← a .before .bad-field .ensures, eq-eqb _ _ (a .if1 .left), lt-leb _ 3 (d .if2 .taken), c .flags-place .ensures)
+
+returns-3 : tie.Need-returns-3
+returns-3 c =
+    let a = c .before .before in
+    rw (initiator-bad, ← a .before .bad-field .ensures, eq-eqb _ _ (a .if1 .left), le-leb _ 3 (c .if2 .left))
+
 pub bad-field-spec : {M : Type 1} → statement M
-unfolding badField firstBad body ranges
 bad-field-spec =
     tie.close
     (tie.spec
-    (λ c. search needs)
     (λ c κs. search needs)
-    (λ c. search needs)
+    (λ c. rw (initiator-bad, ← c .before .bad-field .ensures, ne-eqb _ _ (c .if1 .taken)))
     (λ c κs. search needs)
-    (λ c. rw (c .before .enum-told .given .1) (c .bad-acpi .ensures))
-    (λ c. rw (c .before .before .handle .given .1) (c .bad-pci .ensures)))
+    returns-2
+    returns-3)

@@ -1,20 +1,20 @@
--- `GenericInitiator::is_sound` meets its contract: the law of an initiator's ranges, whose byte of device and function is one of the row.
+-- `GenericInitiator::is_sound` meets its contract: a record is sound where its fixed values are, and its node has no bad field.
 use borrow.Author.Needs.{needs}
-use Rattle.laws.proofs.Fields.{failed, passed}
-use Rattle.srat.proofs.Laws.{initiator-sound}
+use Rattle.laws.proofs.Fields.{failed, passed, sound-node}
 use Rattle.srat.proofs.GenericInitiator.is_sound.Statement.{statement}
 use Rattle.srat.proofs.GenericInitiator.is_sound.Tie as tie
 
-returns : tie.Need-returns
-returns c =
-    let a = c .before .before in
-    rw (initiator-sound (a .before .args .row .now) ((a .shared-slice-known .given 11) .fits), failed (c .before .is-fixed .ensures) (c .if1 .taken))
-
 returns-2 : tie.Need-returns-2
 returns-2 c =
-    let b = c .before .before in
-    let a = b .before in
-    rw (initiator-sound (a .before .args .row .now) ((a .shared-slice-known .given 11) .fits), passed (b .is-fixed .ensures) (c .before .if1 .left), c .get-u32 .ensures)
+    let a = c .before .before in
+    rw (sound-node, passed (a .before .is-fixed .ensures) (a .if1 .left), ← c .before .get .ensures, c .bad-field .ensures)
 
 pub is-sound-spec : {M : Type 1} → statement M
-is-sound-spec = tie.close (tie.spec (λ c κs. search needs) returns (λ c κs. search needs) returns-2)
+is-sound-spec =
+    tie.close
+    (tie.spec
+    (λ c κs. search needs)
+    (λ c. rw (sound-node, failed (c .before .is-fixed .ensures) (c .if1 .taken)))
+    (λ c κs. search needs)
+    (λ c κs. search needs)
+    returns-2)
