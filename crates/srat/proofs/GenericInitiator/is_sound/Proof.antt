@@ -1,20 +1,23 @@
--- `GenericInitiator::is_sound` meets its contract: a record is sound where its fixed values are, and its node has no bad field.
+-- `GenericInitiator::is_sound` meets its contract: a window of all bytes is all of them.
+use mathlib.Core.Path.{sym}
+use native.Mathlib.Omega.{arith}
+use lib.Seq.{take-all, length-take-le}
 use borrow.Author.Needs.{needs}
-use Rattle.laws.proofs.Fields.{failed, passed, sound-node}
 use Rattle.srat.proofs.GenericInitiator.is_sound.Statement.{statement}
 use Rattle.srat.proofs.GenericInitiator.is_sound.Tie as tie
 
+slice : tie.Need-slice-aggregate-is-good
+slice c = sym (length-take-le 32 (c .before .before .before .args .row .now) (omega arith))
+
 returns-2 : tie.Need-returns-2
-returns-2 c =
-    let a = c .before .before in
-    rw (sound-node, passed (a .before .is-fixed .ensures) (a .if1 .left), ← c .before .get .ensures, c .bad-field .ensures)
+returns-2 c = let b = c .before .before .before .before .args .row .now in rw (take-all 32 b (omega arith)) at (c .is-good2 .ensures)
 
 pub is-sound-spec : {M : Type 1} → statement M
 is-sound-spec =
     tie.close
     (tie.spec
     (λ c κs. search needs)
-    (λ c. rw (sound-node, failed (c .before .is-fixed .ensures) (c .if1 .taken)))
-    (λ c κs. search needs)
+    (λ c. search needs)
+    slice
     (λ c κs. search needs)
     returns-2)
