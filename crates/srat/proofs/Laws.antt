@@ -1,10 +1,12 @@
 -- The form of an initiator by its handle, its fixed values and ranges, and what a reading call shows of a node.
 use mathlib.Core.Path.{_≡_, refl}
-use Prim.Native.Nat.{ℕ}
+use Prim.Native.Nat.{ℕ, _/_, _%_, _<_}
 use mathlib.Core.List.{List, [], _∷_}
 use mathlib.Core.Bool.{Bool, true, false}
+use native.Mathlib.Omega.{arith}
 use lib.Dec.{eqb, leb}
-use Rattle.format.specs.Bytes.{pick, both, all, value, part}
+use borrow.Author.Tests.{le-leb}
+use Rattle.format.specs.Bytes.{pick, both, all, at, value, part}
 use Rattle.format.specs.Layout.{asIs, fixedOk}
 use Rattle.format.specs.Form.{acpi, pci, rintc, oldRintc, layout, ranges}
 use Rattle.format.specs.Kind.{body}
@@ -41,6 +43,20 @@ initiator-fixed bs = rw (initiator-form bs) (by (eqb (value (part bs 3 1)) 0) (e
     by true b e f = rw (fixed-now, e, both-right)
     by false true e f = rw (fixed-now, e, f, both-right)
     by false false e f = rw (fixed-now, e, f)
+
+-- flags are what is left to test of an initiator's ranges: device and function share a byte, so that neither can be outside its own
+pub initiator-sound : (bs : List ℕ) → at bs 11 < 256
+    → sound (formIn initiators bs) bs ≡ both (fixedOk (layout (formIn initiators bs)) bs) (leb (value (part bs 24 4)) 3)
+unfolding sound layout ranges
+initiator-sound bs h = rw (initiator-form bs) (by (eqb (value (part bs 3 1)) 0))
+  where
+    l : value (part bs 11 1) < 256
+    l = rw (value-byte bs 11) at h
+
+    by : (b : Bool) → sound (pick b acpi pci) bs ≡ both (fixedOk (layout (pick b acpi pci)) bs) (leb (value (part bs 24 4)) 3)
+    by true = rw (fields-at asIs (layout acpi) bs 0)
+    by false =
+        rw (fields-at asIs (layout pci) bs 0, le-leb (value (part bs 11 1) / 8) 31 (omega (arith, l)), le-leb (value (part bs 11 1) % 8) 7 (omega (arith, l)))
 
 -- the ranges of an initiator: those of its handle first, then the flags, whose place goes by the handle
 pub initiator-bad : (i : GenericInitiator)

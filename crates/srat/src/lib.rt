@@ -4,7 +4,7 @@ ghost use mathlib.Core.Path.{_≡_};
 ghost use mathlib.Core.List.{_∷_, []};
 ghost use Prim.Native.Nat.{_%_};
 ghost use lib.ListN.{length, drop};
-ghost use lib.Dec.{eqb};
+ghost use lib.Dec.{eqb, leb};
 ghost use Rattle.format.specs.Bytes.{value, part, over};
 ghost use Rattle.format.specs.Layout.{two, number, asIs, fields, fixedOk};
 ghost use Rattle.format.specs.Form.{memory, acpi, pci, rintc, oldRintc, size, layout};
@@ -654,6 +654,13 @@ impl GenericInitiator {
         }
     }
 
+    // Bits 0 and 1, with either handle.
+    fn is_good_flags(flags: u32) -> bool
+        ensures { λ r. ⌜ r ≡ leb flags 3 ⌝ }
+    {
+        flags <= Self::FLAGS
+    }
+
     // The place of the first field outside its range, counted from the kind byte; 0 for none.
     pub fn bad_field(self) -> usize
         ensures { λ r. ⌜ r ≡ badField (initiatorNode self) ⌝ }
@@ -663,30 +670,20 @@ impl GenericInitiator {
         if bad != 0 {
             return bad;
         }
-        if Self::FLAGS < self.flags {
+        if !Self::is_good_flags(self.flags) {
             return handle.flags_place();
         }
         0
     }
 
-    // Whether a record is fixed where it has to be, and no field outside its range.
-    fn is_good(row: &[u8]) -> bool
+    // Whether a record is fixed where it has to be, and no field outside its range: device and function share a byte, so that neither can be.
+    pub fn is_sound(row: &[u8]) -> bool
         ensures { λ r. ⌜ r ≡ sound (formIn initiators (now (row .entry))) (now (row .entry)) ⌝ }
     {
         if !Self::is_fixed(row) {
             return false;
         }
-        Self::get(row, 0).bad_field() == 0
-    }
-
-    // The same; a window of constant length, where the record has that length, saves the test of each place.
-    pub fn is_sound(row: &[u8]) -> bool
-        ensures { λ r. ⌜ r ≡ sound (formIn initiators (now (row .entry))) (now (row .entry)) ⌝ }
-    {
-        if row.len() != Self::LEN {
-            return Self::is_good(row);
-        }
-        Self::is_good(&row[..Self::LEN])
+        Self::is_good_flags(field::get_u32(row, 24))
     }
 }
 
