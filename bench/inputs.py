@@ -1,12 +1,20 @@
 """Inputs that are meant to be dear: recipes whose tables, and tables whose bytes, come up to the limit. A name says what is in one.
 
-Each maker gets the limit. Of the calls, check and build take a recipe; accept, read, read_out and record_at take a table.
+Each maker gets the limit, or a length below it. Of the calls, check and build take a recipe; accept, read, read_out and record_at take a
+table.
 """
+import math
 import random
 import struct
 
+# the longest table
+LIMIT = 67108864
+# up to here a PPTT has 4,096 marks at most, and one that is longer has 65,536
+LONG = 1048576
 # what a full processor has
 FULL = 58
+# the most initiators of a matrix, and the most targets
+MOST = 4096
 
 # ---- recipes: pieces are pairs of a record's bytes and of how long it makes the table
 
@@ -16,23 +24,44 @@ def head(code):
 
 
 def processor(parent=0, caches=()):
-    resources = b"".join(struct.pack("<BI", 17, c) for c in caches)
-    return struct.pack("<BIII", 16, 2, parent, 7) + resources, 20 + 4 * len(caches)
+    resources = [number for c in caches for number in (17, c)]
+    return struct.pack("<BIII" + "BI" * len(caches), 16, 2, parent, 7, *resources), 20 + 4 * len(caches)
 
 
 def cache(next_level=0):
     return struct.pack("<BBIIIBBHI", 18, 255, next_level, 1 << 15, 64, 8, 10, 64, 7), 28
 
 
+def size(i, t):
+    """That of a matrix in a table."""
+    return 32 + 4 * (i + t) + 2 * i * t
+
+
 def matrix(i, t, settings=b""):
-    return struct.pack("<BBBBQBB", 49, 0, 1, 0, 100, i, t) + settings, 32 + 4 * (i + t) + 2 * i * t
+    return struct.pack("<BBBBQBB", 49, 0, 1, 0, 100, i, t) + settings, size(i, t)
 
 
-def values(i, t, step=1):
-    """Every value and cell of a matrix, in order or in reverse."""
-    out = [struct.pack("<BBI", 50, k, k + 1) for k in range(i)] + [struct.pack("<BBI", 51, k, k + 1) for k in range(t)]
-    out += [struct.pack("<BBBH", 52, k // t, k % t, k % 1000) for k in range(i * t)]
+def wide(i, t, settings=b""):
+    return struct.pack("<BBBBQHH", 55, 0, 1, 0, 100, i, t) + settings, size(i, t)
+
+
+def values(i, t, step=1, kind=49):
+    """Every value and cell of a matrix of this kind, in order or in reverse."""
+    value, cell = ("<BBI", "<BBBH") if kind == 49 else ("<BHI", "<BHHH")
+    out = [struct.pack(value, kind + 1, k, k + 1) for k in range(i)] + [struct.pack(value, kind + 2, k, k + 1) for k in range(t)]
+    out += [struct.pack(cell, kind + 3, k // t, k % t, k % 1000) for k in range(i * t)]
     return b"".join(out[::step])
+
+
+def square(left, most=MOST):
+    """How many initiators, and as many targets, the largest matrix has that takes no more than so many bytes."""
+    # 32 + 8 n + 2 n n is up to left where (n + 2)^2 is up to left / 2 - 12
+    return min(most, math.isqrt(left // 2 - 12) - 2)
+
+
+def targets(left, i):
+    """How many targets a matrix of i initiators has that takes no more than so many bytes; -1 where none does."""
+    return min(MOST, (left - 32 - 4 * i) // (4 + 2 * i)) if left >= size(i, 0) else -1
 
 
 def side(handles=0):
@@ -53,12 +82,16 @@ def maths(maps=0):
 
 
 def recipe(code, first, more, limit, last=b""):
-    """The first pieces, then more(k) for k = 0, 1, .. as long as the table keeps within the limit, then the bytes of the last record."""
+    """The first pieces, then one piece again and again, or more(k) for k = 0, 1, .., as long as the table keeps within the limit, then the
+    bytes of the last record."""
     out, length = [head(code)], [36, 48, 40, 36][code]
     for piece, n in first:
         out.append(piece)
         length += n
     k = 0
+    if isinstance(more, tuple):
+        piece, n = more
+        return b"".join(out) + piece * max(0, (limit - length) // n) + last
     while True:
         piece, n = more(k)
         if limit < length + n:
@@ -70,10 +103,6 @@ def recipe(code, first, more, limit, last=b""):
         # what is left is filled with the shortest nodes
         out += [processor()[0]] * ((limit - length) // 20)
     return b"".join(out) + last
-
-
-def same(piece):
-    return lambda _k: piece
 
 
 def naming(first, ordinals, parent=0):
@@ -119,23 +148,62 @@ def srat(kind):
         34: (struct.pack("<BIHBBBB", 34, 1, 2, 3, 31, 7, 3), 32),
         36: (struct.pack("<BIIBI", 36, 1, 2, 1, 3), 20),
     }
-    return lambda limit: recipe(1, [], same(bodies[kind]), limit)
+    return lambda limit: recipe(1, [], bodies[kind], limit)
 
 
 def hmat(piece):
-    return lambda limit: recipe(2, [], same(piece), limit)
+    return lambda limit: recipe(2, [], piece, limit)
 
 
 def cedt(piece):
-    return lambda limit: recipe(3, [], same(piece), limit)
+    return lambda limit: recipe(3, [], piece, limit)
 
 
-def settings(i, t, run):
+def settings(i, t, run, made=matrix):
     """One matrix, and a run of settings over and over: the recipe, not its table, comes to the limit."""
     def make(limit):
-        start = head(2) + matrix(i, t)[0]
+        start = head(2) + made(i, t)[0]
         return start + run * ((limit - len(start)) // len(run))
     return make
+
+
+def largest(limit):
+    """The counts of the largest square matrix, and of a matrix that fills what it leaves."""
+    n = square(limit - 40)
+    t = targets(limit - 40 - size(n, n), n)
+    return [(n, n)] + ([(n, t)] if t >= 0 else [])
+
+
+def wide_unset(limit):
+    return head(2) + b"".join(wide(i, t)[0] for i, t in largest(limit))
+
+
+def wide_set(step):
+    """Wide matrices, up to 600 by 600, every value and cell set, as many as fit."""
+    def make(limit):
+        n = square(limit - 40, 600)
+        return recipe(2, [], wide(n, n, values(n, n, step, 55)), limit)
+    return make
+
+
+def wide_row(limit):
+    """The largest square matrix, its first row of cells set over and over: the recipe comes to the limit too."""
+    n = square(limit - 40)
+    return settings(n, n, b"".join(struct.pack("<BHHH", 58, 0, t, t) for t in range(n)), wide)(limit)
+
+
+def wide_column(limit):
+    """The same of the first column."""
+    n = square(limit - 40)
+    return settings(n, n, b"".join(struct.pack("<BHHH", 58, i, 0, i) for i in range(n)), wide)(limit)
+
+
+def loud(make):
+    """A recipe whose head has 0xff behind the table code: there are passes that go twice by such a byte."""
+    def made(limit):
+        quiet = make(limit)
+        return quiet[:2] + b"\xff" * 26 + quiet[28:]
+    return made
 
 
 def refused(make, last):
@@ -143,9 +211,20 @@ def refused(make, last):
     return lambda limit: make(limit) + last
 
 
+def half_caches(ordinals):
+    """Full processors behind caches that fill half of the table, naming ordinals(nodes) of them in turn."""
+    def make(limit):
+        nodes = limit // 2 // 28
+        return front_of_caches(nodes, ordinals(nodes))(limit)
+    return make
+
+
 VALUE = struct.pack("<BBI", 50, 0, 9)
 TARGET = struct.pack("<BBI", 51, 0, 9)
 CELL = struct.pack("<BBBH", 52, 0, 0, 9)
+WIDE_VALUE = struct.pack("<BHI", 56, 0, 9)
+WIDE_TARGET = struct.pack("<BHI", 57, 0, 9)
+WIDE_CELL = struct.pack("<BHHH", 58, 0, 0, 9)
 SHORT = processor()
 THICK = processor(0, [1] * FULL)
 ALONE = chain(processor, lambda k, rng: 0)
@@ -161,6 +240,7 @@ RECIPES = {
     "short processors, parent the one before": chain(processor, lambda k, rng: k),
     "short processors, parent at random": chain(processor, lambda k, rng: rng.randrange(k) + 1),
     "short processors, parents from both ends in turn": chain(processor, lambda k, rng: 1 if k % 2 else k),
+    "short processors, parent at random, behind a head of 0xff": loud(chain(processor, lambda k, rng: rng.randrange(k) + 1)),
     "caches, next level the first": chain(cache, lambda k, rng: 1),
     "caches, next level the one before": chain(cache, lambda k, rng: k),
     "caches, next level at random": chain(cache, lambda k, rng: rng.randrange(k) + 1),
@@ -168,6 +248,7 @@ RECIPES = {
     "full processors, all naming the first cache": front_of_caches(1, [1]),
     "full processors, all naming the cache behind 15 short nodes": BEHIND_16,
     "full processors, all naming the cache behind 31 short nodes": behind(32, SHORT),
+    "full processors, all naming the cache behind 63 short nodes": behind(64, SHORT),
     "full processors, all naming the cache behind 1,023 short nodes": behind(1024, SHORT),
     "full processors, all naming the cache behind 8,191 short nodes": behind(8192, SHORT),
     "full processors, all naming the cache behind 26,000 short nodes": behind(26000, SHORT),
@@ -177,9 +258,12 @@ RECIPES = {
     "full processors, naming the last caches of groups of 16": front_of_caches(16000, [16 * k for k in range(1, 1000)]),
     "full processors, naming both ends of 16,000 caches in turn": front_of_caches(16000, [1, 16000]),
     "full processors, naming the ends of 16,000 caches and the middle in turn": front_of_caches(16000, [16000, 1, 8000, 2]),
+    "full processors, naming the caches of the first half at random": half_caches(jumps),
+    "full processors, naming the last of groups of 64 in the first half": half_caches(lambda nodes: list(range(64, nodes + 1, 64)) or [nodes]),
+    "full processors, naming both ends of the first half in turn": half_caches(lambda nodes: [1, nodes]),
     "full processors, at the end a kind that there is not": refused(BEHIND_16, b"\x63"),
     "full processors, at the end one that is cut": refused(BEHIND_16, b"\x10\x00"),
-    "short processors, at the end a parent that is a later node": refused(ALONE, processor(99999)[0]),
+    "short processors, at the end a parent that is a later node": refused(ALONE, processor(1 << 31)[0]),
     "short processors, at the end a resource that is no cache": refused(ALONE, struct.pack("<BI", 17, 26000)),
     "short processors, at the end one too many": refused(ALONE, processor()[0]),
     "memory ranges": srat(32),
@@ -193,7 +277,7 @@ RECIPES = {
     "matrices of 1 by 1, set": hmat(matrix(1, 1, values(1, 1))),
     "matrices of 1 by 255, set": hmat(matrix(1, 255, values(1, 255))),
     "matrices of 255 by 255, unset": hmat(matrix(255, 255)),
-    "matrices of 255 by 255 and one of 255 by 238, unset": lambda limit: recipe(2, [matrix(255, 238)], same(matrix(255, 255)), limit),
+    "matrices of 255 by 255 and one of 255 by 238, unset": lambda limit: recipe(2, [matrix(255, 238)], matrix(255, 255), limit),
     "matrices of 255 by 255, set in order": hmat(matrix(255, 255, values(255, 255))),
     "matrices of 255 by 255, set in reverse": hmat(matrix(255, 255, values(255, 255, -1))),
     "one cell, set over and over": settings(1, 1, CELL),
@@ -201,6 +285,18 @@ RECIPES = {
     "values and cells in turn": settings(1, 1, VALUE + CELL + TARGET + CELL),
     "a value and two cells in turn": settings(1, 1, VALUE + CELL + CELL),
     "values, at the end one with a bad index": refused(settings(1, 1, VALUE), struct.pack("<BBI", 50, 1, 9)),
+    "wide matrices of 0 by 0": hmat(wide(0, 0)),
+    "wide matrices of 1 by 1, set": hmat(wide(1, 1, values(1, 1, 1, 55))),
+    "wide matrices of 0 by 256, unset": hmat(wide(0, 256)),
+    "the largest wide matrices, up to 4,096 by 4,096, unset": wide_unset,
+    "wide matrices of up to 600 by 600, set in order": wide_set(1),
+    "wide matrices of up to 600 by 600, set in reverse": wide_set(-1),
+    "the largest wide matrix, its first row set over and over": wide_row,
+    "the largest wide matrix, its first column set over and over": wide_column,
+    "one wide cell, set over and over": settings(1, 1, WIDE_CELL, wide),
+    "one initiator's value of a wide matrix, set over and over": settings(1, 1, WIDE_VALUE, wide),
+    "a wide value and two wide cells in turn": settings(1, 1, WIDE_VALUE + WIDE_CELL + WIDE_CELL, wide),
+    "wide values, at the end one of the other width": refused(settings(1, 1, WIDE_VALUE + WIDE_TARGET, wide), VALUE),
     "side caches": hmat(side()),
     "side caches of one handle": hmat(side(1)),
     "side caches of 65,535 handles": hmat(side(65535)),
@@ -328,6 +424,15 @@ def maths_at(maps=0):
     return struct.pack("<BBHHBB", 2, 0, 8 + 8 * maps, 0, 0, maps) + struct.pack("<Q", 5) * maps
 
 
+def largest_at(value, cell):
+    return lambda limit: table(b"HMAT", b"".join(matrix_at(i, t, value, cell) for i, t in largest(limit)))
+
+
+def half(make):
+    """A table whose first half is a front of 2-byte records."""
+    return lambda limit: make(limit // 2)(limit)
+
+
 BRIDGE = struct.pack("<BBHIIIQQ", 0, 0, 32, 1, 1, 0, 1 << 32, 0x10000)
 RINTC = struct.pack("<BBHIIII", 7, 20, 0, 1, 2, 1, 3)
 OLD_RINTC = struct.pack("<BBHIII", 7, 16, 0, 2, 1, 3)
@@ -364,6 +469,9 @@ TABLES = {
     "full processors, naming both ends of 500,000 bytes of 2-byte records": both_ends(524288),
     "full processors, naming 2-byte records at random, in 65,000 bytes": short_jumps(65536),
     "full processors, naming 2-byte records at random, in 500,000 bytes": short_jumps(524288),
+    "full processors, all naming a 2-byte record behind half a table of such": half(short_front),
+    "full processors, naming both ends of half a table of 2-byte records": half(both_ends),
+    "full processors, naming 2-byte records at random, in half a table": half(short_jumps),
     "full processors, all naming the first cache": referring(cache_at(), [36]),
     "full processors, all naming the cache behind 22 short processors": known_front(22),
     "full processors, all naming the cache behind 48 short processors": known_front(48),
@@ -377,6 +485,7 @@ TABLES = {
     "full processors over 2-byte records, at the end one with a bad count": short_front(1024, last=processor_at()[:16] + b"\x01\x00\x00\x00"),
     "full processors over short ones, at the end an unknown record": referring(processor_at() * 48 + cache_at(), [36 + 960], 36 + 940, last=unknown(9)),
     "full processors over 2-byte records, revision 4": short_front(1024, revision=4),
+    "full processors over 2-byte records, revision 255": short_front(1024, revision=255),
     "SRAT of 2-byte records": repeated(b"SRAT", unknown(7)),
     "SRAT of RINTC of 16 bytes": repeated(b"SRAT", OLD_RINTC),
     "SRAT of RINTC of 16 bytes, at the end an unknown record": lambda limit: table(b"SRAT", OLD_RINTC * ((limit - 50) // 16) + unknown(9)),
@@ -392,6 +501,10 @@ TABLES = {
     "HMAT of matrices of 1 by 1, set": repeated(b"HMAT", matrix_at(1, 1, 5, 5)),
     "HMAT of matrices of 255 by 255, unset": repeated(b"HMAT", matrix_at(255, 255)),
     "HMAT of matrices of 255 by 255, set": repeated(b"HMAT", matrix_at(255, 255, 5, 5)),
+    "HMAT of matrices of 0 by 256, unset": repeated(b"HMAT", matrix_at(0, 256)),
+    "HMAT of matrices of 1 by 256, set": repeated(b"HMAT", matrix_at(1, 256, 5, 5)),
+    "HMAT of the largest matrices, up to 4,096 by 4,096, unset": largest_at(0, 65535),
+    "HMAT of the largest matrices, up to 4,096 by 4,096, set": largest_at(5, 5),
     "HMAT of side caches": repeated(b"HMAT", side_at()),
     "HMAT of side caches of 65,535 handles": repeated(b"HMAT", side_at(65535)),
     "HMAT of 8-byte records, at the end a cut one": lambda limit: table(b"HMAT", unknown_hmat(9) * ((limit - 48) // 8) + b"\x00" * 7),

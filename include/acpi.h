@@ -6,7 +6,9 @@
  * A caller owes what C cannot say: each pointer has as many elements as its length says (with length 0 it may be any
  * pointer but NULL), what is written to overlaps nothing else that is lent, and nobody else writes during a call.
  *
- * A call allocates nothing; of a long PPTT it keeps up to 64 KB on the stack.
+ * A call allocates nothing. What it keeps stands on the stack: of a PPTT longer than 1,048,576 bytes 512 KB of marks, while a PPTT's recipe
+ * of 682,240 bytes or more is checked 420 KB, and of some of these twice as much; of shorter ones 32 KB and 6.6 KB. Give a thread that calls
+ * at least 2 MiB of stack.
  */
 #ifndef ISPALMUTZU_ACPI_H
 #define ISPALMUTZU_ACPI_H
@@ -54,7 +56,9 @@ enum acpi_refusal {
 
 /* The rows that a record may be of; a mask has bit 1 << row for each row that is known. A RINTC of an SRAT is of one of two: of 16 bytes,
  * without a domain, or of 20 bytes, as ACPI 6.6 has it and recipes build it. Neither has the name ACPI_ROW_RINTC, which was the first one's:
- * a program that used it looked for records that are not built any more, and does not compile until it says which it means. */
+ * a program that used it looked for records that are not built any more, and does not compile until it says which it means.
+ * A matrix is of ACPI_ROW_MATRIX where both counts are up to 255, and of ACPI_ROW_WIDE_MATRIX where one is above that and both are up to
+ * 4,096; its fields are the same in both. With a count above 4,096 it is unknown. */
 enum acpi_row {
     ACPI_ROW_PROCESSOR = 0,
     ACPI_ROW_CACHE = 1,
@@ -68,6 +72,7 @@ enum acpi_row {
     ACPI_ROW_WINDOW = 9,
     ACPI_ROW_MATHS = 10,
     ACPI_ROW_RINTC_20 = 11,
+    ACPI_ROW_WIDE_MATRIX = 12,
     ACPI_ROW_UNKNOWN = 255
 };
 
@@ -81,7 +86,8 @@ enum acpi_row {
  *   initiator   0, domain, hid, uid, flags for an ACPI handle; 1, domain, segment, bus, device, function, flags for PCI
  *   RINTC       uid, flags, clock domain of 16 bytes; domain, uid, flags, clock domain of 20 bytes
  *   domain      initiator, memory
- *   matrix      flags, data type, transfer size, initiators I, targets T, base unit
+ *   matrix      flags, data type, transfer size, initiators I, targets T, base unit; its part has I + T values, four bytes each, then the
+ *               cells, two bytes each, row by row
  *   side cache  domain, size, attributes, number of SMBIOS handles
  *   bridge      uid, version, base
  *   window      base, size, ways code, arithmetic, granularity, restrictions, QTG; its part has the targets, four bytes each
@@ -100,7 +106,7 @@ enum acpi_answer {
 };
 
 /* The longest table. */
-#define ACPI_LIMIT 1048576u
+#define ACPI_LIMIT 67108864u
 
 /* Builds the table of a recipe into out. Refuses 1 to 12; place gets the table's length. */
 uint32_t acpi_build(const uint8_t *recipe, size_t recipe_len, uint8_t *out, size_t out_len, size_t *place);

@@ -4,8 +4,12 @@ import random
 from model import *
 
 CREATOR = b'RVAT' + bytes([0, 0, 0, 1])  # the creator fields of the crate acpi_tables
-KINDS = {0: (16, 17, 18), 1: (32, 33, 34, 36), 2: (48, 49, 50, 51, 52, 53, 54), 3: (64, 65, 66, 67, 68)}
+KINDS = {0: (16, 17, 18), 1: (32, 33, 34, 36), 2: (48, 49, 50, 51, 52, 53, 54, 55, 56, 57, 58), 3: (64, 65, 66, 67, 68)}
 TABLES = [0, 0, 1, 1, 2, 2, 3, 3]  # how often each is drawn
+CELLS = (52, 58)
+# It was the limit of a table once, and about so long are the longest PPTTs, SRATs and CEDTs here: their recipes are nearly as long as they
+# are. What passes the limit in these is tried by the library's tests; here matrices alone do, whose recipes are short.
+OLD_LIMIT = 1 << 20
 
 
 def num(R, k):
@@ -64,27 +68,68 @@ def g_retired(R):
     return record[:R.choice([10, 10, 10, 1, R.randrange(1, 10)])]
 
 
-def g_matrix(R, I, T):
-    return (bytes([49, R.randrange(256) & 0x33, R.randrange(6), R.randrange(12)]) + by(num(R, 8), 8) + bytes([I, T]))
+def counted(kind, I, T):
+    """the counts of a matrix of kind 49 or 55 as it has them"""
+    return by(I, WIDTH[kind]) + by(T, WIDTH[kind])
 
 
-def g_setting(R, I, T):
-    opts = []
-    if I:
-        opts.append(50)
-    if T:
-        opts.append(51)
-    if I and T:
-        opts += [52, 52, 52]
+def setting(kind, indices, value):
+    """what sets the place of these indices: of a value there is one, of a cell there are two"""
+    return bytes([kind]) + b''.join(by(i, WIDTH[kind]) for i in indices) + by(value, 2 if kind in CELLS else 4)
+
+
+def g_matrix(R, I, T, kind=49):
+    return bytes([kind, R.randrange(256) & 0x33, R.randrange(6), R.randrange(12)]) + by(num(R, 8), 8) + counted(kind, I, T)
+
+
+def index(R, count):
+    """below the count; where that is above what a byte holds, the edges often"""
+    return R.randrange(count) if count <= 255 else R.choice([0, 254, 255, 256 % count, count - 1, R.randrange(count)])
+
+
+def g_setting(R, I, T, kind=49):
+    """of a matrix of this kind"""
+    opts = [1] * (I > 0) + [2] * (T > 0) + [3, 3, 3] * (I > 0 and T > 0)
     if not opts:
         return None
-    k = R.choice(opts)
-    if k == 50:
-        return bytes([50, R.randrange(I)]) + by(num(R, 4), 4)
-    if k == 51:
-        return bytes([51, R.randrange(T)]) + by(num(R, 4), 4)
+    sort = R.choice(opts)
+    if sort < 3:
+        return setting(kind + sort, [index(R, (I, T)[sort - 1])], num(R, 4))
     v = R.choice([0xFFFF, 0, 0xFF, 0xFF00, R.randrange(65536), R.randrange(65536)])
-    return bytes([52, R.randrange(I), R.randrange(T)]) + by(v, 2)
+    return setting(kind + 3, [index(R, I), index(R, T)], v)
+
+
+def set_again(R, last, other):
+    """the place of the last setting, with the value of another or unset"""
+    wide = 2 if last[0] in CELLS else 4
+    value = other[-wide:]
+    if R.random() < .3:
+        value = b'\xff\xff' if wide == 2 else bytes(4)
+    return last[:-wide] + value
+
+
+def g_counts(R, kind):
+    """those of a matrix; of kind 55 sometimes one above 255, and the other so small that the table is short"""
+    I, T = R.choice([0, 1, 2, 3, 4, 5]), R.choice([0, 1, 2, 3, 4, 5])
+    if R.random() < .05:
+        I, T = R.choice([(0, 7), (9, 0), (12, 1), (1, 12)])
+    if kind == 55 and R.random() < .5:
+        I, T = R.choice([(255, 1), (1, 255), (256, 0), (0, 256), (256, 1), (1, 256), (257, 1), (1, 257), (300, 2), (2, 300), (600, 0), (0, 4096)])
+    return I, T
+
+
+def matrix_records(R, kind):
+    """a matrix, and settings, some of which set a place again"""
+    I, T = g_counts(R, kind)
+    out = [g_matrix(R, I, T, kind)]
+    for _ in range(R.choice([0, 0, 1, 2, 4, 8])):
+        s = g_setting(R, I, T, kind)
+        if s is None:
+            break
+        if len(out) > 1 and R.random() < .25:
+            s = set_again(R, out[-1], s)
+        out.append(s)
+    return out
 
 
 def g_side(R):
@@ -139,10 +184,28 @@ def cedt_records(R, size):
     return out
 
 
+def hmat_records(R, size):
+    """the records of an HMAT, all good"""
+    out = []
+    for _ in range(size):
+        k = R.choice([48, 49, 49, 53, 55, 55])
+        if k == 48:
+            out.append(bytes([48]) + by(num(R, 4), 4) + by(num(R, 4), 4))
+        elif k == 53:
+            out.append(g_side(R))
+            for _ in range(R.choice([0, 0, 1, 2, 3, 6])):
+                out.append(bytes([54]) + by(num(R, 2), 2))
+        else:
+            out += matrix_records(R, k)
+    return out
+
+
 def good_records(R, t, size):
     """a list of records (after the head), all good; about `size` nodes"""
     if t == 3:
         return cedt_records(R, size)
+    if t == 2:
+        return hmat_records(R, size)
     out = []
     if t == 0:
         kinds = []
@@ -159,34 +222,9 @@ def good_records(R, t, size):
                     for _ in range(R.choice([0, 0, 1, 1, 2, 3, 5])):
                         out.append(g_res(R, R.choice(caches)))
                 kinds.append(16)
-    elif t == 1:
-        for _ in range(size):
-            out.append(g_srat(R, R.choice(KINDS[1])))
     else:
         for _ in range(size):
-            k = R.choice([48, 49, 49, 53])
-            if k == 48:
-                out.append(bytes([48]) + by(num(R, 4), 4) + by(num(R, 4), 4))
-            elif k == 49:
-                I, T = R.choice([0, 1, 2, 3, 4, 5]), R.choice([0, 1, 2, 3, 4, 5])
-                if R.random() < .05:
-                    I, T = R.choice([(0, 7), (9, 0), (12, 1), (1, 12)])
-                out.append(g_matrix(R, I, T))
-                last = None
-                for _ in range(R.choice([0, 0, 1, 2, 4, 8])):
-                    s = g_setting(R, I, T)
-                    if s is None:
-                        break
-                    if last is not None and R.random() < .25:   # one place set again
-                        s = last[:2 if last[0] != 52 else 3] + s[-(4 if last[0] != 52 else 2):].rjust(4 if last[0] != 52 else 2, b'\0')
-                        if R.random() < .3:
-                            s = s[:2] + bytes(4) if s[0] != 52 else s[:3] + b'\xff\xff'
-                    out.append(s)
-                    last = s
-            else:
-                out.append(g_side(R))
-                for _ in range(R.choice([0, 0, 1, 2, 3, 6])):
-                    out.append(bytes([54]) + by(num(R, 2), 2))
+            out.append(g_srat(R, R.choice(KINDS[1])))
     return out
 
 
@@ -239,21 +277,29 @@ def small_srats():
         yield from map(b''.join, itertools.product(records, repeat=n))
 
 
-def small_hmats():
-    """a domain; a matrix with every value of its small fields, and every cell of the square ones up to 3 by 3 set, alone and after another; side caches"""
-    yield bytes([48]) + by(1, 4) + by(2, 4)
-    for flags in (f for f in range(64) if f & 0x0C == 0):
-        for data in range(6):
-            for size in range(12):
-                yield bytes([49, flags, data, size]) + by(1000, 8) + bytes([1, 1])
+def small_matrix(I, T, kind=49, flags=0, data=1, size=0):
+    return bytes([kind, flags, data, size]) + by(1000, 8) + counted(kind, I, T)
+
+
+def small_matrices(kind):
+    """a matrix with every value of its small fields, and every cell of the square ones up to 3 by 3 set, alone and after another"""
+    for fields in itertools.product((f for f in range(64) if f & 0x0C == 0), range(6), range(12)):
+        yield small_matrix(1, 1, kind, *fields)
     for n in range(1, 4):
-        matrix = bytes([49, 0, 1, 0]) + by(1000, 8) + bytes([n, n])
-        cells = [bytes([52, i, t]) + by(100 * i + t, 2) for i in range(n) for t in range(n)]
-        values = [bytes([kind, i]) + by(77 + i, 4) for kind in (50, 51) for i in range(n)]
+        matrix = small_matrix(n, n, kind)
+        cells = [setting(kind + 3, [i, t], 100 * i + t) for i in range(n) for t in range(n)]
+        values = [setting(kind + side, [i], 77 + i) for side in (1, 2) for i in range(n)]
         for one in cells + values:
             yield matrix + one
             for other in cells + values:
                 yield matrix + one + other
+
+
+def small_hmats():
+    """a domain; matrices of both widths; side caches"""
+    yield bytes([48]) + by(1, 4) + by(2, 4)
+    yield from small_matrices(49)
+    yield from small_matrices(55)
     for levels, level, ways, policy in ((a, b, c, d) for a in range(4) for b in range(4) for c in range(3) for d in range(3)):
         side = bytes([53]) + by(1, 4) + by(1 << 33, 8) + by(levels | level << 4 | ways << 8 | policy << 12 | 64 << 16, 4)
         for n in range(3):
@@ -291,15 +337,18 @@ def small():
 
 
 def largest():
-    """recipes at the limits, with the crate's creator fields: tables of nearly 1,048,576 bytes, 58 resources, 65,535 handles; of windows
-    just as many bytes, and as many full maths as the program calls takes in a recipe"""
+    """recipes as long as the program calls takes them, or with tables as long as it gives them, with the crate's creator fields: tables of
+    nearly 1,048,576 bytes, 58 resources, 65,535 handles; of windows just as many bytes, and as many full maths as it takes; matrices of
+    600 by 600, of which every third cell is set, and of 4,096 by 127"""
     cache, memory = bytes([18, 0]) + bytes(20), bytes([32]) + by(5, 4) + by(6, 8) + by(7, 8) + bytes([3])
     matrix = bytes([49, 0, 0, 0]) + by(1, 8) + bytes([255, 255])
     cells = b''.join(bytes([52, c // 255, c % 255]) + by(c, 2) for c in range(255 * 255))
+    wide, thirds = small_matrix(600, 600, 55), b''.join(setting(58, [c // 600, c % 600], c % 65536) for c in range(0, 360000, 3))
     for t, records in ((0, (bytes([16]) + by(1, 4) + by(0, 4) + by(2, 4)) * 52427), (0, (cache + bytes([16]) + bytes(12) + bytes([17, 1, 0, 0, 0]) * 58)),
                        (0, bytes([16]) + bytes(12) + (bytes([16]) + by(9, 4) + by(1, 4) + by(3, 4)) * 52426), (1, memory * 26213),
                        (1, small_rintc() * 52426),
-                       (2, matrix + cells), (2, matrix * 7), (2, bytes([53]) + bytes(16) + bytes([54, 1, 2]) * 65535), (2, (bytes([48]) + by(1, 4) + by(2, 4)) * 26213),
+                       (2, matrix + cells), (2, matrix * 7), (2, wide), (2, wide + thirds), (2, small_matrix(4096, 127, 55)),
+                       (2, bytes([53]) + bytes(16) + bytes([54, 1, 2]) * 65535), (2, (bytes([48]) + by(1, 4) + by(2, 4)) * 26213),
                        (3, small_window(4) * 10485 + small_window(0)), (3, (bytes([67, 1]) + (bytes([68]) + by(3, 8)) * 255) * 485)):
         yield bytes([1, t]) + b'OEMOEMTABLETAB' + by(1, 4) + CREATOR + records
 
@@ -319,12 +368,12 @@ def rand_record(R, t):
         return g_cedt(R, k)
     if k == 48:
         return bytes([48]) + by(num(R, 4), 4) + by(num(R, 4), 4)
-    if k == 49:
-        return g_matrix(R, R.randrange(4), R.randrange(4))
-    if k in (50, 51):
-        return bytes([k, R.randrange(3)]) + by(num(R, 4), 4)
-    if k == 52:
-        return bytes([52, R.randrange(3), R.randrange(3)]) + by(num(R, 2), 2)
+    if k in (49, 55):
+        return g_matrix(R, R.randrange(4), R.randrange(4), k)
+    if k in CELLS:
+        return setting(k, [R.randrange(3), R.randrange(3)], num(R, 2))
+    if k in WIDTH:
+        return setting(k, [R.randrange(3)], num(R, 4))
     if k == 53:
         return g_side(R)
     return bytes([54]) + by(num(R, 2), 2)
@@ -338,6 +387,11 @@ def or_one(at, *values):
 def set_one(at, *values):
     """ways to make the field at this byte bad: another value"""
     return [((at, 255, v),) for v in values]
+
+
+def set_two(at, *values):
+    """ways to make the field of two bytes bad that begins at this one: another value"""
+    return [((at, 255, v % 256), (at + 1, 255, v // 256)) for v in values]
 
 
 def not_given(bit, at, width):
@@ -363,6 +417,11 @@ SPOILS = {
     51: [set_one(1, 3, 2, 4, 5, 6, 255)],
     52: [set_one(1, 2, 3, 4, 5, 6, 255), set_one(2, 3, 2, 4, 5, 6, 255)],
     53: [or_one(13, 4, 8, 64, 128) + or_one(14, 3, 4, 8, 48, 64, 128)],     # both levels, associativity and policy
+    55: [or_one(1, 4, 8, 64, 128), set_one(2, 6, 7, 8, 255), set_one(3, 12, 13, 16, 255),
+         set_two(12, 4097, 65535, 4098, 4352, 8192, 32768), set_two(14, 4097, 65535, 4098, 4352, 8192, 32768)],
+    56: [set_two(1, 2, 3, 255, 256, 257, 258, 65535)],
+    57: [set_two(1, 3, 4, 255, 256, 257, 258, 65535)],
+    58: [set_two(1, 2, 3, 255, 256, 257, 258, 65535), set_two(3, 3, 4, 255, 256, 257, 258, 65535)],
     64: [set_one(5, 2, 3, 128, 255)],
     65: [set_one(17, *(code for code in range(256) if code not in WAYS)), set_one(18, 2, 3, 128, 255), set_one(19, 7, 8, 128, 255),
          or_one(20, 32, 64, 128)],
@@ -435,6 +494,36 @@ def spoil_window(R, recs):
                                                     bytes([R.choice([0, 63, 69, 200])]), head(R, 3)]))
 
 
+def other_width(rec):
+    """a matrix with its counts, or a setting with its indices, in two bytes each where it was one; or in one, cut to what a byte holds"""
+    kind = rec[0] + 6 if rec[0] < 55 else rec[0] - 6
+    at, n = (12, 2) if kind in (49, 55) else (1, 2 if kind in CELLS else 1)
+    old, new = WIDTH[rec[0]], WIDTH[kind]
+    numbers = [le(rec[at + old * i:at + old * (i + 1)]) for i in range(n)]
+    return bytes([kind]) + rec[1:at] + b''.join(by(v % 256 ** new, new) for v in numbers) + rec[at + old * n:]
+
+
+def spoil_width(R, recs):
+    """a matrix or a setting in the other width, all from one on, all settings, or all that there are; recs is changed"""
+    ours = [i for i, r in enumerate(recs) if r and r[0] in WIDTH and len(r) == 1 + BODY[r[0]]]
+    if not ours:
+        return
+    one = R.choice(ours)
+    for i in R.choice([[one], [one], [i for i in ours if i >= one], [i for i in ours if recs[i][0] not in (49, 55)], ours]):
+        recs[i] = other_width(recs[i])
+
+
+def joining(R, k):
+    """a record of a kind that joins a node"""
+    if k == 17:
+        return g_res(R, R.choice([0, 1, 2]))
+    if k == 54:
+        return bytes([54]) + by(num(R, 2), 2)
+    if k in WIDTH:
+        return setting(k, [0, 0] if k in CELLS else [0], num(R, 2))
+    return g_cedt(R, k)
+
+
 def damage_recipe(R, t, h, recs):
     """one damage on the head and the list of records; gives (h, recs) or bytes"""
     recs = list(recs)
@@ -451,18 +540,14 @@ def damage_recipe(R, t, h, recs):
     elif c == 2:    # a kind of another table
         recs.insert(R.randrange(len(recs) + 1), rand_record(R, R.choice([x for x in KINDS if x != t])))
     elif c == 3:    # unknown kinds, the edges of the ranges
-        k = R.choice([0, 2, 15, 19, 20, 31, 35, 37, 47, 55, 56, 63, 64, 68, 69, 80, 96, 255, 128 + 16, R.randrange(256)])
+        k = R.choice([0, 2, 15, 19, 20, 31, 35, 37, 47, 59, 60, 63, 64, 68, 69, 80, 96, 255, 128 + 16, R.randrange(256)])
         recs.insert(R.randrange(len(recs) + 1), bytes([k]) + bytes(R.randrange(0, 24)))
     elif c == 4:    # second head, whole or cut
         recs.insert(R.randrange(len(recs) + 1), head(R, R.randrange(5))[:R.choice([28, 28, 1, 5])])
     elif c in (5, 6):   # misplaced joined record
         joined = [k for k in KINDS[t] if k in BEHIND]
         if joined:
-            k = R.choice(joined)
-            r = {17: bytes([17]) + by(R.choice([0, 1, 2]), 4), 50: bytes([50, 0]) + by(num(R, 4), 4),
-                 51: bytes([51, 0]) + by(num(R, 4), 4), 52: bytes([52, 0, 0]) + by(num(R, 2), 2),
-                 54: bytes([54]) + by(num(R, 2), 2), 66: g_target(R), 68: g_map(R)}[k]
-            recs.insert(R.randrange(len(recs) + 1), r)
+            recs.insert(R.randrange(len(recs) + 1), joining(R, R.choice(joined)))
         elif len(recs) > 1:
             j = R.randrange(len(recs))
             recs[i], recs[j] = recs[j], recs[i]
@@ -471,6 +556,8 @@ def damage_recipe(R, t, h, recs):
             recs[i] = spoil_field(R, recs[i])
     elif c in (10, 11, 12) and t == 3:     # the ways of a window
         spoil_window(R, recs)
+    elif c in (10, 11, 12) and t == 2:     # the width of counts and indices
+        spoil_width(R, recs)
     elif c in (10, 11, 12) and t == 1:     # the kind that is retired
         recs.insert(R.randrange(len(recs) + 1), g_retired(R))
     elif c in (10, 11, 12):  # a reference
@@ -534,19 +621,19 @@ def full_cedt(R):
     return head(R, 3) + R.choice([b'', g_bridge(R), g_maths(R), g_window(R, 0) + g_target(R)]) + node + behind
 
 
-def nearly_full(left, h=bytes([1, 3]) + bytes(26)):
-    """a CEDT with room for so many bytes more, a multiple of 4: of bridges, maths without maps and perhaps a window of two ways"""
-    fill, window = LIMIT - FRONT[3] - left, b''
+def cedt_below(left, h=bytes([1, 3]) + bytes(26)):
+    """a CEDT so many bytes below the old limit, a multiple of 4: of bridges, maths without maps and perhaps a window of two ways"""
+    fill, window = OLD_LIMIT - FRONT[3] - left, b''
     if fill % 8:
         fill, window = fill - 44, small_window(1)
     return h + window + (bytes([64]) + bytes(13)) * (fill // 32) + bytes([67, 0]) * (fill % 32 // 8)
 
 
 def long_cedt(R):
-    """a CEDT of nearly 1,048,576 bytes, and records of every sort behind it"""
+    """a CEDT that comes to the old limit with some of the records behind it, which are of every sort"""
     code, left = R.choice(list(WAYS)), R.choice([0, 4, 8, 28, 32, 36, 40, 44, 96, 100])
     window = g_window(R, code)
-    return nearly_full(left, head(R, 3)) + R.choice([
+    return cedt_below(left, head(R, 3)) + R.choice([
         b'', g_bridge(R), g_maths(R), g_map(R), g_target(R), window, window + g_targets(R, WAYS[code]), spoil_field(R, window),
         window + g_targets(R, WAYS[code] + 1), window + g_target(R)[:2], window + g_bridge(R), g_maths(R) + g_map(R) * 3])
 
@@ -557,51 +644,47 @@ def handles_recipe(R):
     return head(R, 2) + g_side(R) + (bytes([54]) + by(num(R, 2), 2)) * n + R.choice([b'', b'', bytes([48]) + bytes(8), b'\x36'])
 
 
+def matrix_size(I, T):
+    """how long it is in a table"""
+    return 32 + 4 * I + 4 * T + 2 * I * T
+
+
+def filling(R, size):
+    """few records of an HMAT, of so many bytes in the table, an even number from 9,000 on: large matrices, one of 2,048 initiators, a side
+    cache, which has a handle where the bytes left are no multiple of 4, and a matrix without initiators"""
+    out = []
+    while size > matrix_size(2048, 4096) + 9000:
+        I, T = 2048, 4096
+        if size > matrix_size(4096, 4096) + 9000:
+            I, T = (R.choice([4096, R.randrange(3000, 4097)]) for _ in range(2))
+        out.append(g_matrix(R, I, T, 55))
+        size -= matrix_size(I, T)
+    T = min(4096, (size - 100 - matrix_size(2048, 0)) // (matrix_size(2048, 1) - matrix_size(2048, 0)))
+    out.append(g_matrix(R, 2048, T, 55))
+    size -= matrix_size(2048, T)
+    out.append(g_side(R) + bytes([54, 1, 2]) * (size % 4 // 2))
+    size -= 32 + size % 4
+    return out + [g_matrix(R, 0, (size - 32) // 4, 55)]
+
+
+def hmat_below(left):
+    """an HMAT so many bytes below the limit, an even number; its last record is a wide matrix that has targets alone"""
+    return bytes([1, 2]) + bytes(26) + b''.join(filling(random.Random(left), LIMIT - FRONT[2] - left))
+
+
 def long_recipe(R):
     """lengths about the limit, with few records"""
-    r = head(R, 2)
-    total = 40
-    while True:
-        left = LIMIT - total
-        if left > 140000:
-            I, T = (255, 255) if R.random() < .6 else (R.randrange(200, 256), R.randrange(200, 256))
-            rec, n = g_matrix(R, I, T), 32 + 4 * I + 4 * T + 2 * I * T
-        else:
-            break
-        r += rec
-        total += n
-    # now close to the limit: want = left + delta by one matrix with T = 1 .. and sides
-    want = LIMIT - total + R.choice([0, 0, 2, -2, 4, 40, -40, 1000])
-    best = None
-    for extra in (0, 40, 80, 120, 32, 34, 36, 38, 72, 74, 76, 78):
-        for I in range(1, 256):
-            # 32 + 4I + 4T + 2IT = want - extra  ->  T (4 + 2I) = want - extra - 32 - 4I
-            x = want - extra - 32 - 4 * I
-            if x >= 0 and x % (4 + 2 * I) == 0 and x // (4 + 2 * I) <= 255:
-                best = (I, x // (4 + 2 * I), extra)
-                break
-        if best:
-            break
-    if best is None:
-        return r + g_matrix(R, 255, 255)
-    I, T, extra = best
-    recs = []
-    rest = extra
-    while rest >= 72 or rest == 40:
-        recs.append(bytes([48]) + bytes(8))
-        rest -= 40
-    if rest >= 32:
-        recs.append(g_side(R) + b''.join(bytes([54]) + by(num(R, 2), 2) for _ in range((rest - 32) // 2)))
-    recs.append(g_matrix(R, I, T))
+    recs = filling(R, LIMIT - FRONT[2] + R.choice([0, 0, 2, -2, 4, 40, -40, 1000]))
     R.shuffle(recs)
-    r += b''.join(recs)
-    r += R.choice([b'', b'', bytes([50, 0]) + by(7, 4), bytes([54]) + by(3, 2), g_side(R), bytes([48]) + bytes(8), b'\x30', bytes([49, 4]) + bytes(12),
-                   spoil_field(R, g_matrix(R, 255, 255)), spoil_field(R, g_side(R)), spoil_field(R, bytes([52, 0, 0, 7, 0]))])
-    return r
+    wide = g_matrix(R, 4096, 4096, 55)
+    return head(R, 2) + b''.join(recs) + R.choice([
+        b'', b'', setting(50, [0], 7), setting(56, [0], 7), setting(57, [0], 7), bytes([54]) + by(3, 2), g_side(R), bytes([48]) + bytes(8), b'\x30', wide,
+        g_matrix(R, 255, 255), small_matrix(0, 0, 55), spoil_field(R, wide), spoil_field(R, g_matrix(R, 255, 255)), spoil_field(R, g_side(R)),
+        spoil_field(R, setting(52, [0, 0], 7)), spoil_field(R, setting(58, [0, 0], 7))])
 
 
 def long_pptt(R):
-    """a PPTT of 1,048,564 bytes, in which three resources have room yet, and records of every sort behind it"""
+    """a PPTT that comes to the old limit with three resources, and records of every sort behind it"""
     r = head(R, 0) + g_proc(R, 0) + (bytes([18]) + bytes(21)) * 37446 + g_proc(R, 1) + g_res(R, 2) * R.choice([0, 2, 3, 3])
     own = 37449
     refs = [0, 1, 2, own - 1, own, own + 1]
@@ -653,7 +736,7 @@ def every_kind():
 
 def cedt_faults():
     """every set of bad fields, and the largest good ones; windows with targets from none to one too many, maths with many maps, the head and
-    a bridge, and behind each the end or a record of every sort; the same at the limit of the table's length"""
+    a bridge, and behind each the end or a record of every sort; CEDTs at the old limit and past it"""
     h = bytes([1, 3]) + bytes(26)
     bridge, window, target, maths, xor_map = (bytes([k]) + bytes(BODY[k]) for k in KINDS[3])
     for rec in (bridge, window, maths):
@@ -667,15 +750,13 @@ def cedt_faults():
             yield from (h + spoiled(window, set_one(17, code)) + target * n + other for other in behind)
     for node in [b'', bridge] + [maths + xor_map * n for n in (0, 1, 254, 255, 256)]:
         yield from (h + node + other for other in behind)
-    for left, rest in ((28, bridge), (32, bridge), (36, window), (36, window + target), (40, window), (40, window + target * 2), (36, bad[1]),
-                       (40, window + target), (4, maths), (8, maths + xor_map), (0, xor_map),
-                       (2048, maths + xor_map * 256)):
-        yield nearly_full(left) + rest
+    for left, rest in ((32, bridge), (28, bridge), (36, window + target), (8, maths + xor_map)):
+        yield cedt_below(left) + rest
 
 
-def nearly_full_srat(left):
-    """an SRAT with room for so many bytes more, a multiple of 4: of memory, and up to four initiators and a RINTC"""
-    fill = LIMIT - FRONT[1] - left
+def srat_below(left):
+    """an SRAT so many bytes below the old limit, a multiple of 4: of memory, and up to four initiators and a RINTC"""
+    fill = OLD_LIMIT - FRONT[1] - left
     rintcs = fill % 8 // 4
     initiators = next(n for n in range(5) if (fill - 20 * rintcs - 32 * n) % 40 == 0)
     memory = (fill - 20 * rintcs - 32 * initiators) // 40
@@ -684,7 +765,7 @@ def nearly_full_srat(left):
 
 def rintc_faults():
     """the kind that is retired in each table, whole and cut, with each value of its flags, before and behind records good and bad; the
-    RINTC with its domain cut, and in other tables; both at the limit of the table's length"""
+    RINTC with its domain cut, and in other tables; both at the old limit"""
     heads = [bytes([1, t]) + bytes(26) for t in KINDS]
     srat, rintc, memory = heads[1], small_rintc(), bytes([32]) + bytes(21)
     retired, bad = bytes([35]) + rintc[5:], small_rintc(flags=2)
@@ -694,13 +775,76 @@ def rintc_faults():
     for before in [b'', memory, rintc, bad, retired]:
         yield from (srat + before + record + behind for record in (retired, retired[:1], rintc, rintc[:1], bad) for behind in others)
     yield heads[3] + bytes([65]) + bytes(22) + retired      # an incomplete window comes first
-    for left in (0, 16, 20, 24):
-        yield from (nearly_full_srat(left) + record for record in (retired, rintc, bad, rintc[:-1]))
+    for left in (16, 20):
+        yield from (srat_below(left) + record for record in (retired, rintc))
+
+
+def every_order(h):
+    """one to three records of an HMAT, of every kind in every order"""
+    records = [small_matrix(2, 3, k) if k in (49, 55) else bytes([k]) + bytes(BODY[k]) for k in KINDS[2]]
+    for n in (1, 2, 3):
+        yield from (h + b''.join(some) for some in itertools.product(records, repeat=n))
+
+
+def edges(count):
+    """indices about the count, and about what a byte holds"""
+    return sorted({0, 1, 254, 255, 256, 257, 65535} | {i for i in (count - 1, count, count + 1, count + 255, count + 256) if i >= 0})
+
+
+def index_faults(h):
+    """settings of both widths with indices about the counts and about 256, on matrices of both widths"""
+    for I, T in ((0, 0), (2, 3), (0, 256), (256, 0), (255, 256), (256, 255), (600, 300), (1, 4096), (4096, 1), (4096, 4096)):
+        wide = h + small_matrix(I, T, 55)
+        yield from (wide + setting(56, [i], 9) for i in edges(I))
+        yield from (wide + setting(57, [t], 9) for t in edges(T))
+        yield from (wide + setting(58, place, 9) for place in itertools.product(edges(I), edges(T)))
+    for matrix, kind in itertools.product((49, 55), (50, 51, 52, 56, 57, 58)):
+        places = itertools.product((0, 1, 2, 3, 255), repeat=2 if kind in CELLS else 1)
+        yield from (h + small_matrix(2, 3, matrix) + setting(kind, place, 9) for place in places)
+
+
+def corners(I, T, kind=55):
+    """what sets the ends of a matrix and the places about 256, the last first"""
+    rows, columns = (sorted({i for i in (0, 255, 256, n - 1) if 0 <= i < n}, reverse=True) for n in (I, T))
+    cells = [setting(kind + 3, [i, t], (7 * i + t) % 65536) for i in rows for t in columns]
+    return b''.join(cells + [setting(kind + 2, [t], t + 1) for t in columns] + [setting(kind + 1, [i], i + 1) for i in rows])
+
+
+def wide_matrices(h=bytes([1, 2]) + bytes(26)):
+    """matrices with counts about those of row 6 and of row 12, and of neither, unset and set at the corners"""
+    for I, T in itertools.product((0, 1, 255, 256, 600, 4096), repeat=2):
+        yield from (h + small_matrix(I, T, 55), h + small_matrix(I, T, 55) + corners(I, T))
+    yield h + small_matrix(255, 255) + corners(255, 255, 49)
+    yield h + small_matrix(2, 3) + corners(2, 3, 49) + small_matrix(256, 1, 55) + corners(256, 1) + small_matrix(3, 2, 55) + corners(3, 2)
+
+
+def full_hmats():
+    """HMATs that come to the limit with a record of each kind that makes them longer, or pass it; other faults of such a record, and settings"""
+    domain, side, handle = (bytes([k]) + bytes(BODY[k]) for k in (48, 53, 54))
+    for need, record in ((40, domain), (32, side), (34, side + handle), (36, side + handle * 2), (32, small_matrix(0, 0)), (132122, small_matrix(255, 255)),
+                         (32, small_matrix(0, 0, 55)), (1056, small_matrix(256, 0, 55)), (33587232, small_matrix(4096, 4096, 55))):
+        yield from (hmat_below(left) + record for left in (need, need - 2, need + 2))
+    wide = small_matrix(4096, 4096, 55)
+    yield from (hmat_below(0) + record for record in (wide[:-1], wide[:-1] + b'\x11', spoiled(wide, SPOILS[55][0][:1]), handle, setting(50, [0], 7)))
+    yield from (hmat_below(0) + record for record in (b'', setting(57, [0], 7), setting(56, [0], 7), setting(57, [0], 7) + setting(57, [4096], 7)))
+
+
+def matrix_faults():
+    """of wide matrices every set of bad fields, and counts about the most; the order of records, indices, sizes and the limit"""
+    h = bytes([1, 2]) + bytes(26)
+    yield from (h + bad for bad in every_fault(small_matrix(2, 3, 55)))
+    yield from (h + small_matrix(I, T, 55) for I, T in itertools.product((0, 1, 4095, 4096, 4097, 4352, 65535), repeat=2))
+    for k in (56, 57, 58):
+        yield from (h + small_matrix(2, 3, 55) + bad for bad in every_fault(bytes([k]) + bytes(BODY[k])))
+    yield from every_order(h)
+    yield from index_faults(h)
+    yield from wide_matrices(h)
+    yield from full_hmats()
 
 
 def faults():
     """small recipes with one bad record: every set of bad fields of each kind, with references good and bad; every sort of reference;
-    every kind in every table; nodes that are too full or not full enough; the kind that is retired"""
+    every kind in every table; nodes that are too full or not full enough; the kind that is retired; matrices of both widths"""
     heads = [bytes([1, t]) + bytes(26) for t in range(3)]
     cache, processor, resource = bytes([18]) + bytes(21), bytes([16]) + bytes(12), bytes([17]) + bytes(4)
     nodes = heads[0] + cache + processor     # nodes 1 and 2, and the record behind them is node 3
@@ -727,6 +871,7 @@ def faults():
     yield from every_kind()
     yield from rintc_faults()
     yield from cedt_faults()
+    yield from matrix_faults()
 
 
 def outside(recipe):
@@ -734,11 +879,13 @@ def outside(recipe):
     at, oblong = 28, False
     while at < len(recipe):
         kind = recipe[at]
-        if kind == 64 or (kind == 52 and oblong) or (kind == 65 and recipe[at + 20] & 2):
+        end = at + 1 + BODY[kind]
+        if kind == 64 or (kind in CELLS and oblong) or (kind == 65 and recipe[at + 20] & 2):
             return True
-        if kind == 49:
-            oblong = recipe[at + 12] != recipe[at + 13]
-        at += 1 + BODY[kind]
+        if kind in (49, 55):
+            half = at + 12 + WIDTH[kind]
+            oblong = recipe[at + 12:half] != recipe[half:end]
+        at = end
     return recipe[1] == 0 and len(recipe) == 28
 
 
@@ -805,8 +952,8 @@ def odd_record(R, t):
         n = R.choice([8, 9, 12, 20, 31, 32, 33, 36, 39, 40, 41, 44])
         body = bytearray(bytes(R.choice([0, 0, 0, R.randrange(256)]) for _ in range(n - 8)))
         if typ == 1 and n >= 20 and R.random() < .6:
-            body[4:8] = by(R.choice([256, 0, 1, 255, 65536, 1 << 24]), 4)
-            body[8:12] = by(R.choice([256, 0, 1, 255, 65536, 1 << 31]), 4)
+            body[4:8] = by(R.choice([256, 0, 1, 255, 4096, 4097, 65536, 1 << 24]), 4)
+            body[8:12] = by(R.choice([256, 0, 1, 255, 4096, 4097, 65536, 1 << 31]), 4)
         return by(typ, 2) + by(R.choice([0, 0, 0, 1, 256]), 2) + by(n, 4) + bytes(body)
     if t == 3:
         typ = R.choice([0, 0, 1, 1, 2, 2, 3, 3, 4, 255, R.randrange(256)])
@@ -832,10 +979,18 @@ def with_rintcs(R, tab):
     return mend(set_length(tab))
 
 
-def matrix_256(R):
-    I, T = R.choice([(256, 0), (0, 256), (256, 1), (255, 0), (0, 255)])
-    vals = bytes(4 * I + 4 * T + 2 * I * T)
-    return (by(1, 2) + bytes(2) + by(32 + len(vals), 4) + bytes([0, 0, 0, 0]) + by(I, 4) + by(T, 4) + bytes(4) + by(5, 8) + vals)
+def matrix_record(I, T, size=None, behind=None):
+    """of so many bytes, all that it should have if not said; behind its 32 it has these, if not said nothing set"""
+    behind = bytes(4 * (I + T)) + b'\xff\xff' * (I * T) if behind is None else behind
+    size = 32 + len(behind) if size is None else size
+    fields = bytes([0x33, 5, 11, 0]) + by(I, 4) + by(T, 4) + bytes(4) + by(5, 8)
+    return (by(1, 2) + bytes(2) + by(size, 4) + fields + behind).ljust(size, b'\0')[:size]
+
+
+def g_matrix_record(R):
+    """with counts about what the rows of matrices tell apart, set or not"""
+    I, T = R.choice([(256, 0), (0, 256), (256, 1), (255, 0), (0, 255), (1, 256), (255, 2), (4096, 0), (0, 4096), (4097, 0), (0, 4097), (3, 300), (1, 4096)])
+    return matrix_record(I, T, behind=R.choice([None, None, bytes(4 * I + 4 * T + 2 * I * T), b'\xff' * (4 * I + 4 * T + 2 * I * T)]))
 
 
 def crowded_record(R):
@@ -851,7 +1006,7 @@ ZEROS = {0: [2, 3], 1: [2, 3], 2: [6, 7, 24, 25, 26, 27, 32, 33, 35, 39], 3: [2,
 
 
 def row_here(t, typ, n):
-    """the row of a type; of a RINTC the length tells which"""
+    """the row of a type; of a RINTC the length tells which, and a wide matrix is laid out as the others are"""
     return {(0, 0): 0, (0, 1): 1, (1, 1): 2, (1, 5): 3, (1, 7): 4 if n < 20 else 11, (2, 0): 5, (2, 1): 6, (2, 2): 7,
             (3, 0): 8, (3, 1): 9, (3, 2): 10}.get((t, typ))
 
@@ -902,7 +1057,7 @@ def damage_table(R, tab):
         elif row == 6 and n >= 32:
             at = R.choice([12, 16])
             o = le(b[p + at:p + at + 4])
-            v = R.choice([o + 1, max(o - 1, 0), 255, 256, 257, o + 256, o + 65536, o + (1 << 24), 0])
+            v = R.choice([o + 1, max(o - 1, 0), 255, 256, 257, 4095, 4096, 4097, o + 256, o + 4096, o + 65536, o + (1 << 24), 0])
             b[p + at:p + at + 4] = by(v & 0xFFFFFFFF, 4)
             if R.random() < .3:
                 b[p + 12:p + 16], b[p + 16:p + 20] = b[p + 16:p + 20], b[p + 12:p + 16]
@@ -975,7 +1130,7 @@ def lent_table(R):
     if c < .25:
         return tab
     if c < .28 and t in (2, 3):
-        return mend(set_length(tab + (matrix_256(R) if t == 2 else crowded_record(R))))
+        return mend(set_length(tab + (g_matrix_record(R) if t == 2 else crowded_record(R))))
     for _ in range(R.choice([1, 1, 1, 2, 2, 3])):
         tab = damage_table(R, tab)
     if R.random() < .88:
@@ -985,13 +1140,15 @@ def lent_table(R):
     return tab
 
 
-ROWS = (1 << 12) - 1    # the mask of every row
+ROWS = (1 << 13) - 1    # the mask of every row
 RINTCS = 1 << 4 | 1 << 11
+MATRICES = 1 << 6 | 1 << 12
 
 
 def mask(R):
-    return R.choice([ALL, ALL, ROWS, ROWS, 255, 0, R.randrange(ROWS + 1), R.randrange(ROWS + 1), 1 << R.randrange(12), ROWS ^ (1 << R.randrange(12)),
-                     R.randrange(1 << 32), ALL ^ ROWS, ALL ^ (1 << R.randrange(12)), RINTCS, ROWS ^ RINTCS, ROWS ^ 1 << 11, ROWS ^ 1 << 4])
+    return R.choice([ALL, ALL, ROWS, ROWS, 255, 0, R.randrange(ROWS + 1), R.randrange(ROWS + 1), 1 << R.randrange(13), ROWS ^ (1 << R.randrange(13)),
+                     R.randrange(1 << 32), ALL ^ ROWS, ALL ^ (1 << R.randrange(13)), RINTCS, ROWS ^ RINTCS, ROWS ^ 1 << 11, ROWS ^ 1 << 4,
+                     MATRICES, ROWS ^ MATRICES, ROWS ^ 1 << 12, ROWS ^ 1 << 6])
 
 
 def table_of_each():
@@ -1005,6 +1162,28 @@ def table_of_each():
     for t, records in enumerate((cache + processor + resource, srat, hmat + bytes([54, 1, 2]), cedt + bytes([67, 6]) + (bytes([68]) + by(5, 8)) * 2)):
         yield table(bytes([1, t]) + bytes(26) + records)
     yield srat_of(rintc_record(16), rintc_record(20))
+    yield hmat_of(matrix_record(0, 256), matrix_record(1, 2), matrix_record(4097, 0, 40))
+
+
+def hmat_of(*records, revision=1):
+    empty = table(bytes([1, 2]) + bytes(26))
+    return mend(set_length(empty[:8] + bytes([revision]) + empty[9:] + b''.join(records)))
+
+
+def hmat_tables_at_edges():
+    """HMATs of one matrix with every two counts about those that rows tell apart, in 32 bytes, and whole where it is short; longer and
+    shorter than it should be, with counts changed for each other, with values and cells set; beside a matrix of the other row; at other
+    revisions"""
+    most = (0, 1, 255, 256, 257, 4095, 4096, 4097, 4352, 65535, 65536, 65792, 1 << 24, 1 << 31)
+    yield from (hmat_of(matrix_record(I, T, n, b'')) for I, T in itertools.product(most, repeat=2) for n in (31, 32))
+    some = [(0, 0), (2, 3), (255, 0), (0, 255), (256, 0), (0, 256), (257, 1), (1, 257), (300, 3), (3, 300), (4096, 0), (0, 4096), (4097, 0), (0, 4097)]
+    for I, T in some:
+        n = matrix_size(I, T)
+        yield from (hmat_of(matrix_record(I, T, n + more)) for more in (0, -4, -2, -1, 1, 2, 4, 256) if n + more >= 32)
+        yield from (hmat_of(record) for record in (matrix_record(T, I, n), matrix_record(I, T, n, b''), matrix_record(I, T, n, b'\1\2\3\4\0\0\0\5')))
+        yield from (hmat_of(*records) for records in itertools.permutations([matrix_record(I, T), matrix_record(1, 1), matrix_record(1, 256)], 2))
+        yield from (hmat_of(matrix_record(I, T), revision=revision) for revision in (0, 2, 255))
+    yield from (hmat_of(matrix_record(I, T)) for I, T in ((255, 255), (255, 256), (256, 255), (256, 256), (1, 4096), (4096, 1), (1, 4097), (4097, 1)))
 
 
 def srat_of(*records, revision=3):
@@ -1030,8 +1209,9 @@ def srat_tables_at_edges():
 
 
 def touched(tab):
-    """the table with each byte behind the header other than it was, and the sum mended"""
-    for at in range(36, len(tab)):
+    """the table with each byte behind the header other than it was, and the sum mended; of a long table the first bytes, since those behind
+    them are a matrix's values"""
+    for at in range(36, min(len(tab), 200)):
         for v in {0, 1, 255, tab[at] ^ 128, (tab[at] + 1) % 256} - {tab[at]}:
             yield mend(tab[:at] + bytes([v]) + tab[at + 1:])
 
@@ -1069,10 +1249,11 @@ def cedt_tables_at_edges():
 
 
 def faulty_tables():
-    """tables of every row, good and with each byte of their records changed; SRATs and CEDTs at the edges of their rows"""
+    """tables of every row, good and with each byte of their records changed; HMATs, SRATs and CEDTs at the edges of their rows"""
     for tab in table_of_each():
         yield tab
         yield from touched(tab)
+    yield from hmat_tables_at_edges()
     yield from srat_tables_at_edges()
     yield from cedt_tables_at_edges()
 
@@ -1093,7 +1274,7 @@ if __name__ == '__main__':
             places.setdefault(a[1], set()).add(a[2])
         if a[:2] == ('refused', 5):
             words[named(r, a[2]).split(' at ')[0]] += 1
-        if a[0] == 'given' and a[1] < 100000:
+        if a[0] == 'given' and a[1] < 800000:
             t = table(r)
             assert recipe_of(t) == normal(r), r.hex()
             assert table(normal(r)) == t
@@ -1102,8 +1283,9 @@ if __name__ == '__main__':
     print('build', sorted(cb.items()), sum(szs) / len(szs), max(szs))
     print('fields', sorted(words.items()))
     szs = []
-    for i in range(3200):
-        t = lent_table(R)
+    few = list(faulty_tables())
+    for i in range(3200 + len(few)):
+        t = few[i - 3200] if i >= 3200 else lent_table(R)
         szs.append(len(t))
         m = mask(R)
         full = read(t, m, 0)

@@ -1,5 +1,5 @@
-"""A reading of documents 01 and 02 in another language: pure functions on bytes, sharing no code with the crates. Of document 02: orders 1 to 4."""
-LIMIT = 1 << 20
+"""A reading of documents 01 and 02 in another language: pure functions on bytes, sharing no code with the crates. Of document 02: orders 1 to 6."""
+LIMIT = 1 << 26
 NAMES = (b'PPTT', b'SRAT', b'HMAT', b'CEDT')
 FRONT = (36, 48, 40, 36)
 REV = (3, 3, 1, 1)
@@ -7,11 +7,16 @@ TAIL = (b'', b'\x01\0\0\0' + bytes(8), bytes(4), b'')
 # of a record's frame: the type's width, where the length stands and its width, and the least length
 FRAME = ((1, 1, 1, 2), (1, 1, 1, 2), (2, 4, 4, 8), (1, 2, 2, 4))
 BODY = {1: 27, 16: 12, 17: 4, 18: 21, 32: 21, 33: 17, 34: 10, 36: 13,
-        48: 8, 49: 13, 50: 5, 51: 5, 52: 4, 53: 16, 54: 2,
+        48: 8, 49: 13, 50: 5, 51: 5, 52: 4, 53: 16, 54: 2, 55: 15, 56: 6, 57: 6, 58: 6,
         64: 13, 65: 22, 66: 4, 67: 1, 68: 8}
 RETIRED = (35,)     # a kind of SRAT once: the RINTC without its domain
 # a record that joins a node: the kinds that it may stand directly behind
-BEHIND = {17: (16, 17), 50: (49, 50, 51, 52), 51: (49, 50, 51, 52), 52: (49, 50, 51, 52), 54: (53, 54), 66: (65, 66), 68: (67, 68)}
+BEHIND = {17: (16, 17), 50: (49, 50, 51, 52), 51: (49, 50, 51, 52), 52: (49, 50, 51, 52), 54: (53, 54),
+          56: (55, 56, 57, 58), 57: (55, 56, 57, 58), 58: (55, 56, 57, 58), 66: (65, 66), 68: (67, 68)}
+# a matrix and what is set in it: how many bytes a count or an index takes
+WIDTH = {49: 1, 50: 1, 51: 1, 52: 1, 55: 2, 56: 2, 57: 2, 58: 2}
+# the most initiators of a matrix, and the most targets
+MOST_COUNTED = 4096
 # a window's code and its number of ways
 WAYS = {0: 1, 1: 2, 2: 4, 3: 8, 4: 16, 8: 3, 9: 6, 10: 12}
 # a bridge's version and the length of its registers
@@ -32,7 +37,7 @@ def table_of_kind(k):
         return 0
     if 32 <= k <= 36:
         return 1
-    if 48 <= k <= 54:
+    if 48 <= k <= 58:
         return 2
     if 64 <= k <= 68:
         return 3
@@ -73,14 +78,15 @@ def rules(r, last=None):
         return [(8, r[8] <= 31), (9, r[9] <= 7), (10, r[10] <= 3)]
     if k == 36:
         return [(9, r[9] <= 1)]
-    if k == 49:
-        return [(1, r[1] & ~0x33 == 0), (2, r[2] <= 5), (3, r[3] <= 11)]
-    if k == 50:
-        return [(1, r[1] < last['I'])]
-    if k == 51:
-        return [(1, r[1] < last['T'])]
-    if k == 52:
-        return [(1, r[1] < last['I']), (2, r[2] < last['T'])]
+    w = WIDTH.get(k)
+    if k in (49, 55):
+        return [(1, r[1] & ~0x33 == 0), (2, r[2] <= 5), (3, r[3] <= 11)] + [(at, le(r[at:at + w]) <= MOST_COUNTED) for at in (12, 12 + w)]
+    if k in (50, 56):
+        return [(1, le(r[1:1 + w]) < last['I'])]
+    if k in (51, 57):
+        return [(1, le(r[1:1 + w]) < last['T'])]
+    if k in (52, 58):
+        return [(1, le(r[1:1 + w]) < last['I']), (1 + w, le(r[1 + w:1 + 2 * w]) < last['T'])]
     if k == 53:
         return [(13, side_ok(le(r[13:17])))]
     if k == 64:
@@ -202,15 +208,16 @@ def parse(r):
             ini, mem = cut(b, 4, 4)
             new = dict(kind=48, ini=ini, mem=mem)
             grow = 40
-        elif k == 49:
-            flags, dt, ts, unit, I, T = cut(b, 1, 1, 1, 8, 1, 1)
+        elif k in (49, 55):
+            flags, dt, ts, unit, I, T = cut(b, 1, 1, 1, 8, WIDTH[k], WIDTH[k])
+            # a matrix is a matrix, in however many bytes its counts were written
             new = dict(kind=49, flags=flags, dt=dt, ts=ts, unit=unit, I=I, T=T,
                        iv={}, tv={}, cells={})
             grow = 32 + 4 * I + 4 * T + 2 * I * T
-        elif k in (50, 51):
-            idx, val = cut(b, 1, 4)
-        elif k == 52:
-            i, t2, val = cut(b, 1, 1, 2)
+        elif k in (50, 51, 56, 57):
+            idx, val = cut(b, WIDTH[k], 4)
+        elif k in (52, 58):
+            i, t2, val = cut(b, WIDTH[k], WIDTH[k], 2)
         elif k == 53:
             dom, size, attr = cut(b, 4, 8, 4)
             new = dict(kind=53, dom=dom, size=size, attr=attr, hs=[])
@@ -250,11 +257,11 @@ def parse(r):
             nodes.append(new)
         elif k == 17:
             last['res'].append(ref)
-        elif k == 50:
+        elif k in (50, 56):
             last['iv'][idx] = val
-        elif k == 51:
+        elif k in (51, 57):
             last['tv'][idx] = val
-        elif k == 52:
+        elif k in (52, 58):
             last['cells'][i, t2] = val
         elif k == 54:
             last['hs'].append(h)
@@ -267,6 +274,20 @@ def parse(r):
         p = e
     judge_window(nodes, b'')
     return t, head, nodes, total
+
+
+def matrix_values(n):
+    """the values of a matrix, 0 where none is set, and its cells, 0xFFFF where none is set: few are, of many"""
+    I, T = n['I'], n['T']
+    sides, cells = bytearray(4 * (I + T)), bytearray(b'\xff\xff' * (I * T))
+    for i, v in n['iv'].items():
+        sides[4 * i:4 * i + 4] = by(v, 4)
+    for t, v in n['tv'].items():
+        sides[4 * (I + t):4 * (I + t) + 4] = by(v, 4)
+    for (i, t), v in n['cells'].items():
+        at = 2 * (i * T + t)
+        cells[at:at + 2] = by(v, 2)
+    return bytes(sides + cells)
 
 
 def node_bytes(n, nodes):
@@ -295,12 +316,9 @@ def node_bytes(n, nodes):
         return (by(0, 2) + bytes(2) + by(40, 4) + by(1, 2) + bytes(2) + by(n['ini'], 4)
                 + by(n['mem'], 4) + bytes(20))
     if k == 49:
-        I, T = n['I'], n['T']
-        vals = b''.join(by(n['iv'].get(i, 0), 4) for i in range(I))
-        vals += b''.join(by(n['tv'].get(i, 0), 4) for i in range(T))
-        vals += b''.join(by(n['cells'].get((i, t), 0xFFFF), 2) for i in range(I) for t in range(T))
+        vals = matrix_values(n)
         return (by(1, 2) + bytes(2) + by(32 + len(vals), 4) + bytes([n['flags'], n['dt'], n['ts'], 0])
-                + by(I, 4) + by(T, 4) + bytes(4) + by(n['unit'], 8) + vals)
+                + by(n['I'], 4) + by(n['T'], 4) + bytes(4) + by(n['unit'], 8) + vals)
     if k == 53:
         hs = n['hs']
         return (by(2, 2) + bytes(2) + by(32 + 2 * len(hs), 4) + by(n['dom'], 4) + bytes(4)
@@ -359,6 +377,16 @@ def built(r, buf):
     return table(r) + bytes(buf[a[1]:])
 
 
+def matrix_recipe(n):
+    """kind 49 and its settings where both counts are up to 255, else kind 55 and its settings"""
+    k, w = (49, 1) if n['I'] <= 255 and n['T'] <= 255 else (55, 2)
+    o = [bytes([k, n['flags'], n['dt'], n['ts']]) + by(n['unit'], 8) + by(n['I'], w) + by(n['T'], w)]
+    o += [bytes([k + 1]) + by(i, w) + by(v, 4) for i, v in sorted(n['iv'].items()) if v != 0]
+    o += [bytes([k + 2]) + by(t, w) + by(v, 4) for t, v in sorted(n['tv'].items()) if v != 0]
+    o += [bytes([k + 3]) + by(i, w) + by(t, w) + by(v, 2) for (i, t), v in sorted(n['cells'].items()) if v != 0xFFFF]
+    return b''.join(o)
+
+
 def node_recipe(n):
     k = n['kind']
     if k == 16:
@@ -378,19 +406,7 @@ def node_recipe(n):
     if k == 48:
         return bytes([48]) + by(n['ini'], 4) + by(n['mem'], 4)
     if k == 49:
-        out = (bytes([49, n['flags'], n['dt'], n['ts']]) + by(n['unit'], 8) + bytes([n['I'], n['T']]))
-        for i in sorted(n['iv']):
-            if n['iv'][i] != 0:
-                out += bytes([50, i]) + by(n['iv'][i], 4)
-        for i in sorted(n['tv']):
-            if n['tv'][i] != 0:
-                out += bytes([51, i]) + by(n['tv'][i], 4)
-        cs = []
-        for i, t in sorted(n['cells']):
-            v = n['cells'][i, t]
-            if v != 0xFFFF:
-                cs.append(bytes([52, i, t]) + by(v, 2))
-        return out + b''.join(cs)
+        return matrix_recipe(n)
     if k == 53:
         return (bytes([53]) + by(n['dom'], 4) + by(n['size'], 8) + by(n['attr'], 4)
                 + b''.join(bytes([54]) + by(h, 2) for h in n['hs']))
@@ -415,6 +431,13 @@ def normal(r):
 
 # ---------------------------------------------------------------- reading
 
+def matrix_row(I, T):
+    """6 where both counts are up to 255, 12 where one is above that and both are up to the most"""
+    if I <= 255 and T <= 255:
+        return 6
+    return 12 if I <= MOST_COUNTED and T <= MOST_COUNTED else None
+
+
 def row_of(t, rev, typ, b, mask):
     """the known row that the record b matches, or None"""
     if rev != REV[t]:
@@ -438,8 +461,8 @@ def row_of(t, rev, typ, b, mask):
     elif t == 2:
         if typ == 0 and n == 40:
             row = 5
-        elif typ == 1 and n >= 32 and le(b[12:16]) <= 255 and le(b[16:20]) <= 255:
-            row = 6
+        elif typ == 1 and n >= 32:
+            row = matrix_row(le(b[12:16]), le(b[16:20]))
         elif typ == 2 and n >= 32:
             row = 7
     else:
@@ -486,7 +509,7 @@ def fields_of(row, b):
     if row == 5:
         f, z, ini, mem, z2 = cut(b[8:], 2, 2, 4, 4, 20)
         return z0 == 0 and f == 1 and z == 0 and z2 == 0, [ini, mem]
-    if row == 6:
+    if row in (6, 12):
         flags, dt, ts, z, I, T, z2, unit = cut(b[8:32], 1, 1, 1, 1, 4, 4, 4, 8)
         ok = (z0 == 0 and z == 0 and z2 == 0 and good(b'\x31' + b[8:11])
               and n == 32 + 4 * I + 4 * T + 2 * I * T)
@@ -580,11 +603,37 @@ def part(lent, mask, n):
     b = lent[p:p + size]
     if row is None:
         return b
-    start = {0: 20, 6: 32, 7: 32, 9: 36, 10: 8}.get(row)
+    start = {0: 20, 6: 32, 7: 32, 9: 36, 10: 8, 12: 32}.get(row)
     return b'' if start is None else b[start:]
 
 
 # ---------------------------------------------------------------- reading out
+
+def values_out(k, w, b):
+    """a record for each value that is not 0"""
+    values = [b[q:q + 4] for q in range(0, len(b), 4)]
+    return [bytes([k]) + by(i, w) + v for i, v in enumerate(values) if v != bytes(4)]
+
+
+def cells_out(k, w, i, b):
+    """a record for each cell of initiator i that is not 0xFFFF"""
+    if b == b'\xff' * len(b):       # a large matrix has many of these
+        return []
+    cells = [b[q:q + 2] for q in range(0, len(b), 2)]
+    return [bytes([k]) + by(i, w) + by(t, w) + v for t, v in enumerate(cells) if v != b'\xff\xff']
+
+
+def matrix_out(row, fields, b):
+    """the records of a matrix; of row 6 with indices of a byte, of row 12 of two"""
+    k, w = (49, 1) if row == 6 else (55, 2)
+    flags, dt, ts, I, T, unit = fields
+    o = [bytes([k, flags, dt, ts]) + by(unit, 8) + by(I, w) + by(T, w)]
+    targets, cells = 32 + 4 * I, 32 + 4 * I + 4 * T
+    o += values_out(k + 1, w, b[32:targets]) + values_out(k + 2, w, b[targets:cells])
+    for i in range(I):
+        o += cells_out(k + 3, w, i, b[cells + 2 * T * i:cells + 2 * T * (i + 1)])
+    return b''.join(o)
+
 
 def out(lent):
     t, rev, n, recs = judge(lent, ALL)
@@ -619,26 +668,8 @@ def out(lent):
             o.append(bytes([36]) + by(f[0], 4) + by(f[1], 4) + bytes([f[2]]) + by(f[3], 4))
         elif row == 5:
             o.append(bytes([48]) + by(f[0], 4) + by(f[1], 4))
-        elif row == 6:
-            flags, dt, ts, I, T, unit = f
-            o.append(bytes([49, flags, dt, ts]) + by(unit, 8) + bytes([I, T]))
-            q = 32
-            for i in range(I):
-                v = b[q:q + 4]
-                if le(v):
-                    o.append(bytes([50, i]) + v)
-                q += 4
-            for i in range(T):
-                v = b[q:q + 4]
-                if le(v):
-                    o.append(bytes([51, i]) + v)
-                q += 4
-            for i in range(I):
-                for j in range(T):
-                    v = b[q:q + 2]
-                    if le(v) != 0xFFFF:
-                        o.append(bytes([52, i, j]) + v)
-                    q += 2
+        elif row in (6, 12):
+            o.append(matrix_out(row, f, b))
         elif row == 7:
             o.append(bytes([53]) + by(f[0], 4) + by(f[1], 8) + by(f[2], 4))
             for i in range(f[3]):
@@ -697,6 +728,10 @@ WORDS = {
     52: ('cell', 'initiator 1, target 1, value 2'),
     53: ('side cache', 'domain 4, size 8, attributes 4'),
     54: ('SMBIOS handle', 'handle 2'),
+    55: ('matrix', 'flags 1, data type 1, transfer size 1, base unit 8, initiators 2, targets 2'),
+    56: ('initiator value', 'index 2, value 4'),
+    57: ('target value', 'index 2, value 4'),
+    58: ('cell', 'initiator 2, target 2, value 2'),
     64: ('CXL host bridge', 'uid 4, version 1, base 8'),
     65: ('CXL window', 'base 8, size 8, ways 1, arithmetic 1, granularity 1, restrictions 1, QTG 2'),
     66: ('target of a CXL window', 'uid 4'),

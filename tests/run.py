@@ -1,8 +1,9 @@
 """How a program of target/bin is run: by itself on x86-64, elsewhere under the emulator of the Rattle kit with the kit's loader and C
-library, as rt runs it.
+library, as rt runs it. Whatever stack its caller has, it gets 8 MiB, where its rooms are small, or as much as is asked for.
 """
 import os
 import platform
+import resource
 import shutil
 import subprocess
 import sys
@@ -29,19 +30,26 @@ def emulator():
 
 
 EMULATOR = emulator()
+SMALL, LARGE = 8 << 20, 256 << 20  # bytes of stack: with LARGE a program makes large rooms
 
 
-def program(name, data):
+def limit(stack):
+    """what a process does before it becomes the program"""
+    return lambda: resource.setrlimit(resource.RLIMIT_STACK, (stack, resource.getrlimit(resource.RLIMIT_STACK)[1]))
+
+
+def program(name, data, *words, stack=SMALL):
     """what a program writes and says of an input"""
-    done = subprocess.run(EMULATOR + [os.path.join(BIN, name)], input=data, capture_output=True)
+    done = subprocess.run([*EMULATOR, os.path.join(BIN, name), *words], input=data, capture_output=True, preexec_fn=limit(stack))
     if done.returncode:
         sys.exit('%s ended with status %d: %s' % (name, done.returncode, done.stderr.decode(errors='replace')))
     return done.stdout, done.stderr
 
 
-def lines(words, asked):
+def lines(words, asked, stack=SMALL):
     """the answers of a program, given by its words: a line for each line asked"""
-    done = subprocess.run(words, input=''.join(line + '\n' for line in asked), capture_output=True, text=True)
+    given = ''.join(line + '\n' for line in asked)
+    done = subprocess.run(words, input=given, capture_output=True, text=True, preexec_fn=limit(stack))
     if done.returncode:
         sys.exit('%s ended with status %d: %s' % (words[-1], done.returncode, done.stderr))
     answers = done.stdout.splitlines()
@@ -50,6 +58,6 @@ def lines(words, asked):
     return answers
 
 
-def calls(asked):
+def calls(asked, stack=SMALL):
     """the answers of the program calls (docs/CALLS.md)"""
-    return lines(EMULATOR + [os.path.join(BIN, 'calls')], asked)
+    return lines(EMULATOR + [os.path.join(BIN, 'calls')], asked, stack)

@@ -110,6 +110,7 @@ pub enum Node {
         initiator: u32,
         memory: u32,
     },
+    /// Of row 6, or of row 12 where a count is above 255.
     Matrix {
         flags: u8,
         data_type: u8,
@@ -188,7 +189,7 @@ fn node(row: u64, v: &[u64]) -> Node {
         3 => initiator(v),
         4 => Node::OldRintc { acpi_processor_uid: (v[0] as u32).to_le_bytes(), flags: v[1] as u32, clock_domain: v[2] as u32 },
         5 => Node::Domain { initiator: v[0] as u32, memory: v[1] as u32 },
-        6 => Node::Matrix {
+        6 | 12 => Node::Matrix {
             flags: v[0] as u8,
             data_type: v[1] as u8,
             min_transfer_size: v[2] as u8,

@@ -24,7 +24,7 @@ extern "C" {
 pub const EVERY: u32 = u32::MAX;
 
 /// The longest table.
-pub const LIMIT: usize = 1_048_576;
+pub const LIMIT: usize = 67_108_864;
 
 fn answer(number: u32, place: usize) -> Result<usize, Refusal> {
     match number {

@@ -57,7 +57,7 @@ impl CEDT {
         self.recipe.bytes()
     }
 
-    /// The table, or why it is refused: a window with fewer or more targets than ways, more than 255 maps, more than 1,048,576
+    /// The table, or why it is refused: a window with fewer or more targets than ways, more than 255 maps, more than 67,108,864
     /// bytes.
     pub fn try_table(&self) -> Result<Vec<u8>, Refusal> {
         self.recipe.try_table()

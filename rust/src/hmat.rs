@@ -12,6 +12,12 @@ const CELL: u8 = 52;
 const SIDE_CACHE: u8 = 53;
 const SMBIOS_HANDLE: u8 = 54;
 
+/// A wide matrix, with counts of two bytes. The kinds of its settings stand behind it as those of the other behind 49.
+const WIDE_MATRIX: u8 = 55;
+
+/// A matrix has up to so many initiators, and up to so many targets.
+const MAX_COUNT: usize = 4096;
+
 /// An HMAT while its nodes are added.
 #[derive(Clone, Debug)]
 pub struct HMAT {
@@ -31,10 +37,11 @@ impl HMAT {
     }
 
     pub fn add_system_locality(&mut self, s: SystemLocality) {
-        let sink = self.recipe.sink();
-        sink.vec(&[MATRIX, s.flags, s.data_type as u8, s.min_transfer_size as u8]);
+        let (sink, width) = (self.recipe.sink(), s.width());
+        sink.vec(&[width.kind(MATRIX), s.flags, s.data_type as u8, s.min_transfer_size as u8]);
         sink.qword(s.entry_base_unit);
-        sink.vec(&[s.initiators, s.targets]);
+        width.put(sink, s.initiators);
+        width.put(sink, s.targets);
         sink.vec(&s.settings);
     }
 
@@ -55,7 +62,7 @@ impl HMAT {
         self.recipe.bytes()
     }
 
-    /// The table, or why it is refused: more than 65,535 SMBIOS handles, more than 1,048,576 bytes.
+    /// The table, or why it is refused: more than 65,535 SMBIOS handles, more than 67,108,864 bytes.
     pub fn try_table(&self) -> Result<Vec<u8>, Refusal> {
         self.recipe.try_table()
     }
@@ -118,6 +125,31 @@ pub enum LocalityType {
     ThirdLevelCache = 3,
 }
 
+/// How wide a recipe writes the counts of a matrix and the indices of its settings.
+#[derive(Copy, Clone)]
+enum Width {
+    Byte,
+    Pair,
+}
+
+impl Width {
+    /// In this width, the kind of the matrix or the setting that has this one where its numbers are bytes.
+    fn kind(self, kind: u8) -> u8 {
+        match self {
+            Width::Byte => kind,
+            Width::Pair => kind - MATRIX + WIDE_MATRIX,
+        }
+    }
+
+    /// Writes a count or an index, which is so wide at most.
+    fn put(self, sink: &mut Vec<u8>, n: u16) {
+        match self {
+            Width::Byte => sink.byte(n as u8),
+            Width::Pair => sink.word(n),
+        }
+    }
+}
+
 /// A matrix of latencies or bandwidths between initiators and targets, with its settings in the order of the calls.
 #[derive(Clone, Debug)]
 pub struct SystemLocality {
@@ -125,22 +157,28 @@ pub struct SystemLocality {
     data_type: DataType,
     min_transfer_size: MinTransferSize,
     entry_base_unit: u64,
-    initiators: u8,
-    targets: u8,
+    initiators: u16,
+    targets: u16,
     settings: Vec<u8>,
 }
 
+/// A count of initiators or targets. Panics above the most.
+fn count(n: usize, what: &str) -> u16 {
+    assert!(n <= MAX_COUNT, "at most {MAX_COUNT} {what}");
+    n as u16
+}
+
 /// An index of a side with so many places. Panics past its end, as indexing does.
-fn index(idx: usize, places: u8) -> u8 {
+fn index(idx: usize, places: u16) -> u16 {
     assert!(idx < places as usize, "index {idx} of {places}");
-    idx as u8
+    idx as u16
 }
 
 impl SystemLocality {
     const MINIMUM_TRANSFER_SIZE_REQD: u8 = 0x10;
     const NON_SEQUENTIAL_TRANSFERS: u8 = 0x20;
 
-    /// Panics for more than 255 initiators or targets.
+    /// Panics for more than 4,096 initiators or targets.
     pub fn new(
         loc_type: LocalityType,
         data_type: DataType,
@@ -154,9 +192,27 @@ impl SystemLocality {
             data_type,
             min_transfer_size,
             entry_base_unit,
-            initiators: u8::try_from(num_initiators).expect("at most 255 initiators"),
-            targets: u8::try_from(num_targets).expect("at most 255 targets"),
+            initiators: count(num_initiators, "initiators"),
+            targets: count(num_targets, "targets"),
             settings: Vec::new(),
+        }
+    }
+
+    /// That of the normal form: a byte where both counts are up to 255.
+    fn width(&self) -> Width {
+        if self.initiators <= 255 && self.targets <= 255 {
+            Width::Byte
+        } else {
+            Width::Pair
+        }
+    }
+
+    /// Writes kind and indices of a setting, whose value follows.
+    fn set(&mut self, kind: u8, indices: &[u16]) {
+        let width = self.width();
+        self.settings.byte(width.kind(kind));
+        for idx in indices {
+            width.put(&mut self.settings, *idx);
         }
     }
 
@@ -169,19 +225,19 @@ impl SystemLocality {
     }
 
     pub fn set_initiator_value(&mut self, idx: usize, value: u32) {
-        self.settings.vec(&[INITIATOR_VALUE, index(idx, self.initiators)]);
+        self.set(INITIATOR_VALUE, &[index(idx, self.initiators)]);
         self.settings.dword(value);
     }
 
     pub fn set_target_value(&mut self, idx: usize, value: u32) {
-        self.settings.vec(&[TARGET_VALUE, index(idx, self.targets)]);
+        self.set(TARGET_VALUE, &[index(idx, self.targets)]);
         self.settings.dword(value);
     }
 
     /// The cell of an initiator and a target. Of a matrix with as many targets as initiators acpi_tables has it at the same
     /// place; of others docs/DIFFERENCES.md says what differs.
     pub fn set_entry_value(&mut self, initiator_idx: usize, target_idx: usize, value: u16) {
-        self.settings.vec(&[CELL, index(initiator_idx, self.initiators), index(target_idx, self.targets)]);
+        self.set(CELL, &[index(initiator_idx, self.initiators), index(target_idx, self.targets)]);
         self.settings.word(value);
     }
 }

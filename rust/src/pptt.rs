@@ -63,7 +63,7 @@ impl PPTT {
         self.recipe.bytes()
     }
 
-    /// The table, or why it is refused: a handle of another table, more than 58 resources, more than 1,048,576 bytes.
+    /// The table, or why it is refused: a handle of another table, more than 58 resources, more than 67,108,864 bytes.
     pub fn try_table(&self) -> Result<Vec<u8>, Refusal> {
         self.recipe.try_table()
     }

@@ -62,7 +62,7 @@ impl SRAT {
         self.recipe.bytes()
     }
 
-    /// The table, or why it is refused: a device or function out of range, more than 1,048,576 bytes.
+    /// The table, or why it is refused: a device or function out of range, more than 67,108,864 bytes.
     pub fn try_table(&self) -> Result<Vec<u8>, Refusal> {
         self.recipe.try_table()
     }

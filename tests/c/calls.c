@@ -1,5 +1,5 @@
-/* Builds case C3, a CEDT and an SRAT, reads them and reads them out through the library; refusals too; adds up bytes. Exit status 1 at the
- * first difference. */
+/* Builds case C3, a CEDT, an SRAT and an HMAT with a wide matrix, reads them and reads them out through the library; refusals too; adds up
+ * bytes. Exit status 1 at the first difference. */
 #include "acpi.h"
 #include <stdio.h>
 #include <stdlib.h>
@@ -222,6 +222,60 @@ static void domains(void)
     expect("the record", place, 48);
 }
 
+/* an HMAT: a head of zeros; a matrix of 300 by 2, whose counts have two bytes; the value of initiator 256; the cell of 299 and 1 */
+enum { MATRIX = 28, INITIATORS = 40, VALUE = 44, CELL = 51, HMAT = 58, FILLED = 40 + 32 + 4 * 302 + 2 * 600 };
+static const uint8_t hmat[HMAT] = {
+    [0] = 1, [1] = 2,
+    [MATRIX] = 55, [29] = 0x11, [30] = 3, [31] = 2, [32] = 100, [INITIATORS] = 0x2c, [41] = 1, [42] = 2,
+    [VALUE] = 56, [46] = 1, [47] = 9,
+    [CELL] = 58, [52] = 0x2b, [53] = 1, [54] = 1, [56] = 0x34, [57] = 0x12,
+};
+
+/* what acpi_check refuses with one byte of that recipe changed */
+static void refuses_wide(const char *what, size_t at, uint8_t byte, uint32_t number, size_t where)
+{
+    size_t place = 99;
+    uint8_t changed[HMAT];
+    memcpy(changed, hmat, HMAT);
+    changed[at] = byte;
+    expect(what, acpi_check(changed, HMAT, &place), number);
+    expect(what, place, where);
+}
+
+static void matrices(void)
+{
+    static const uint64_t fields[6] = { 0x11, 3, 2, 300, 2, 100 };
+    static const uint8_t one[44] = { [0] = 1, [1] = 2, [MATRIX] = 55, [INITIATORS] = 1, [42] = 1 };
+    static const uint8_t normal[42] = { [0] = 1, [1] = 2, [MATRIX] = 49, [INITIATORS] = 1, [41] = 1 };
+    size_t place = 99;
+    uint64_t r[ACPI_ANSWER];
+    uint8_t table[FILLED], out[HMAT];
+    expect("build", acpi_build(hmat, HMAT, table, sizeof table, &place), 0);
+    expect("length", place, sizeof table);
+    expect("value of initiator 256", table[72 + 4 * 256], 9);
+    expect("cell of 299 and 1", table[sizeof table - 2] + 256 * table[sizeof table - 1], 0x1234);
+    expect("read", acpi_read(table, sizeof table, ACPI_EVERY, 0, r, ACPI_ANSWER, &place), 0);
+    expect("records", place, 1);
+    expect("row", r[ACPI_ROW], ACPI_ROW_WIDE_MATRIX);
+    expect("part", r[ACPI_PART_PLACE], 72);
+    expect("part's length", r[ACPI_PART_LENGTH], sizeof table - 72);
+    for (size_t i = 0; i < 6; i++)
+        expect("field", r[ACPI_FIELDS + i], fields[i]);
+    expect("read by the other row", acpi_read(table, sizeof table, 1u << ACPI_ROW_MATRIX, 0, r, ACPI_ANSWER, &place), 0);
+    expect("row", r[ACPI_ROW], ACPI_ROW_UNKNOWN);
+    expect("read out", acpi_read_out(table, sizeof table, out, sizeof out, &place), 0);
+    expect("length", place, HMAT);
+    expect("recipe", memcmp(out, hmat, HMAT), 0);
+    refuses_wide("4,140 initiators", 41, 0x10, ACPI_BAD_FIELD, INITIATORS);
+    refuses_wide("an index past the end", 46, 2, ACPI_BAD_FIELD, VALUE + 1);
+    refuses_wide("a value with an index of one byte", VALUE, 50, ACPI_MISPLACED, VALUE);
+    expect("build", acpi_build(one, sizeof one, table, sizeof table, &place), 0);
+    expect("length", place, 40 + 32 + 4 * 2 + 2);
+    expect("read out", acpi_read_out(table, place, out, sizeof out, &place), 0);
+    expect("length", place, sizeof normal);
+    expect("counts of one byte", memcmp(out, normal, sizeof normal), 0);
+}
+
 /* the sum, which fits */
 static uint64_t sum(const uint8_t *bytes, size_t length)
 {
@@ -264,6 +318,7 @@ int main(void)
     windows();
     ways();
     domains();
+    matrices();
     sums();
     puts("built, read, listed, read out and added up");
     return 0;

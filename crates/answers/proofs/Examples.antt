@@ -9,7 +9,7 @@ use Rattle.format.specs.Node.{bytes, nodeAt, sizes, starts, atPlace, isOrdinal,
 use Rattle.format.specs.Field.{firstBad}
 use Rattle.format.specs.Recipe.{cutAs, cut, joined, setting, unset, step, fault, lacking, faultAt, run, headed, meaning}
 use Rattle.format.specs.Build.{records, header, summed, tableFrom, build, table, written, built}
-use Rattle.format.specs.Normal.{each, eachSet, settings, calls, callsOf, recipeOf, normal}
+use Rattle.format.specs.Normal.{each, eachSet, settings, matrixCalls, calls, callsOf, recipeOf, normal}
 use Rattle.format.specs.Read.{headFault, judgeHead, framed, frames, sound, recordFault, walk, walked, accept, shown, listIn, fieldsOf, partOf, read, readPart}
 use Rattle.format.specs.Out.{nodesFrom, old, outOf, meaningOf, readOut, recipe, outWritten}
 use Rattle.format.specs.Listing.{digits, refusedWords, sumWords}
@@ -21,7 +21,7 @@ use Rattle.answers.specs.Lines.{refusal, success, told, carriedOut, cont
 use Rattle.answers.specs.Examples.{Examples}
 
 pub examples : Examples
-unfolding le value part over sum same width layWith fieldsWith fixedOk refsGood layout registers ways cacheAttributes matrixFlags sideAttributes ranges column matches rowOf formIn kindOf noKind body bytes nodeAt sizes starts atPlace isOrdinal atOrdinal placeOf ordinalOf cutAs cut joined setting unset step fault firstBad faultAt lacking run headed meaning records header summed tableFrom build table written built each eachSet settings calls callsOf recipeOf normal headFault judgeHead framed frames sound recordFault walk walked accept shown listIn fieldsOf partOf read readPart nodesFrom old outOf meaningOf readOut recipe outWritten digits refusedWords sumWords shown.glyph shown.pairs shown.hexed shown.others shown.listed spaceIn callIn stepTo numberFrom numberIn valueOf allHex pairOf pairs dataIn allAre refusal success told carriedOut content ending found seen total writing asking adding answerTo
+unfolding le value part over sum same width layWith fieldsWith fixedOk refsGood layout registers ways cacheAttributes matrixFlags sideAttributes ranges column matches rowOf formIn kindOf noKind body bytes nodeAt sizes starts atPlace isOrdinal atOrdinal placeOf ordinalOf cutAs cut joined setting unset step fault firstBad faultAt lacking run headed meaning records header summed tableFrom build table written built each eachSet settings matrixCalls calls callsOf recipeOf normal headFault judgeHead framed frames sound recordFault walk walked accept shown listIn fieldsOf partOf read readPart nodesFrom old outOf meaningOf readOut recipe outWritten digits refusedWords sumWords shown.glyph shown.pairs shown.hexed shown.others shown.listed spaceIn callIn stepTo numberFrom numberIn valueOf allHex pairOf pairs dataIn allAre refusal success told carriedOut content ending found seen total writing asking adding answerTo
 examples =
     record {
       ok-build = refl;
@@ -66,6 +66,7 @@ examples =
       row-9 = refl;
       row-10 = refl;
       row-11 = refl;
+      row-12 = refl;
       row-unknown = refl;
       sum-none = refl;
       sum-table = refl;

@@ -11,6 +11,7 @@ use lib.ListN.{length, take, drop, replicate, length-replicate, length-append}
 use lib.Seq.{take-at}
 use borrow.Author.Tests.{leb-true, ltb-false}
 use Rattle.format.specs.Bytes.{pick, same, over}
+use Rattle.format.specs.Form.{byte, pair}
 use Rattle.format.specs.Row.{Row, processors, caches, memories, initiators, oldRintcs, domains, matrices, sides, bridges, windows, xors, rintcs}
 use Rattle.format.specs.Build.{build, built}
 use Rattle.format.specs.Out.{readOut, outWritten}
@@ -172,7 +173,8 @@ content-as (some memories) vs = refl
 content-as (some initiators) vs = refl
 content-as (some oldRintcs) vs = refl
 content-as (some domains) vs = refl
-content-as (some matrices) vs = refl
+content-as (some (matrices byte)) vs = refl
+content-as (some (matrices pair)) vs = refl
 content-as (some sides) vs = refl
 content-as (some bridges) vs = refl
 content-as (some windows) vs = refl

@@ -16,5 +16,8 @@ examples =
       inside-a-field = refl;
       table-code = refl;
       transfer-size = refl;
+      targets = refl;
+      wide-targets = refl;
+      wide-cell = refl;
       ways = refl;
     }

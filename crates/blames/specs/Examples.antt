@@ -18,6 +18,10 @@ caches = headed 0 ++ (18 ∷ replicate 21 0)
 abbrev matrices : List ℕ
 matrices = headed 2 ++ (48 ∷ replicate 8 0 ++ (49 ∷ replicate 13 0))
 
+-- another of two-byte counts and indices: a matrix and a cell
+abbrev wides : List ℕ
+wides = headed 2 ++ (55 ∷ replicate 15 0 ++ (58 ∷ replicate 6 0))
+
 -- a CEDT's recipe: a host bridge and a window
 abbrev windows : List ℕ
 windows = headed 3 ++ (64 ∷ replicate 13 0 ++ (65 ∷ replicate 22 0))
@@ -28,4 +32,7 @@ pub record Examples : Type 0 where
   pub inside-a-field : fieldWords caches 35 ≡ []
   pub table-code : fieldWords (headed 7) 1 ≡ text "table code of the head at 0"
   pub transfer-size : fieldWords matrices 40 ≡ text "transfer size of the matrix at 37"
+  pub targets : fieldWords matrices 50 ≡ text "targets of the matrix at 37"
+  pub wide-targets : fieldWords wides 42 ≡ text "targets of the matrix at 28"
+  pub wide-cell : fieldWords wides 49 ≡ text "value of the cell at 44"
   pub ways : fieldWords windows 59 ≡ text "ways of the CXL window at 42"

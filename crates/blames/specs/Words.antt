@@ -15,7 +15,7 @@ use Rattle.text.specs.Text.{text}
 
 -- ---- names
 
--- what a record is called
+-- what a record is called, of either width
 unfoldable pub recordName : Kind → List ℕ
 recordName Processor = text "processor"
 recordName Resource = text "resource"
@@ -25,10 +25,10 @@ recordName Acpi = text "generic initiator"
 recordName Pci = text "generic initiator"
 recordName Rintc = text "RINTC affinity"
 recordName Domain = text "proximity domain"
-recordName Matrix = text "matrix"
-recordName Initiator = text "initiator value"
-recordName Target = text "target value"
-recordName Cell = text "cell"
+recordName (Matrix w) = text "matrix"
+recordName (Initiator w) = text "initiator value"
+recordName (Target w) = text "target value"
+recordName (Cell w) = text "cell"
 recordName Side = text "side cache"
 recordName Handle = text "SMBIOS handle"
 recordName Bridge = text "CXL host bridge"
@@ -47,10 +47,10 @@ fieldNames Acpi = text "domain" ∷ text "hid" ∷ text "uid" ∷ text "flags" �
 fieldNames Pci = text "domain" ∷ text "segment" ∷ text "bus" ∷ text "device" ∷ text "function" ∷ text "flags" ∷ []
 fieldNames Rintc = text "domain" ∷ text "uid" ∷ text "flags" ∷ text "clock domain" ∷ []
 fieldNames Domain = text "initiator" ∷ text "memory" ∷ []
-fieldNames Matrix = text "flags" ∷ text "data type" ∷ text "transfer size" ∷ text "base unit" ∷ text "initiators" ∷ text "targets" ∷ []
-fieldNames Initiator = text "index" ∷ text "value" ∷ []
-fieldNames Target = text "index" ∷ text "value" ∷ []
-fieldNames Cell = text "initiator" ∷ text "target" ∷ text "value" ∷ []
+fieldNames (Matrix w) = text "flags" ∷ text "data type" ∷ text "transfer size" ∷ text "base unit" ∷ text "initiators" ∷ text "targets" ∷ []
+fieldNames (Initiator w) = text "index" ∷ text "value" ∷ []
+fieldNames (Target w) = text "index" ∷ text "value" ∷ []
+fieldNames (Cell w) = text "initiator" ∷ text "target" ∷ text "value" ∷ []
 fieldNames Side = text "domain" ∷ text "size" ∷ text "attributes" ∷ []
 fieldNames Handle = text "handle" ∷ []
 fieldNames Bridge = text "uid" ∷ text "version" ∷ text "base" ∷ []

@@ -7,6 +7,7 @@ ghost use mathlib.Core.Option.{some};
 ghost use Rattle.format.specs.Kind as format;
 ghost use Rattle.format.specs.Recipe.{cut};
 ghost use Rattle.header.specs.Header.{meant};
+ghost use Rattle.hmat.specs.Widths.{meantWidth};
 ghost use Rattle.recipe.specs.Kinds.{meantKind};
 ghost use Rattle.text.specs.Text.{laid};
 ghost use Rattle.blames.specs.Words.{fieldOf, holder, headWords, recordWords, fieldWords};
@@ -25,6 +26,7 @@ use hmat::MemorySideCache;
 use hmat::SmbiosHandle;
 use hmat::SystemLocality;
 use hmat::Value;
+use hmat::Width;
 use pptt::CacheNode;
 use pptt::ProcessorNode;
 use pptt::Resource;
@@ -151,49 +153,60 @@ fn domain(at: usize, out: &mut [u8], n: usize) -> usize
     }
 }
 
-fn matrix(at: usize, out: &mut [u8], n: usize) -> usize
-    ensures { λ r. ⌜ (r, now (out .exit)) ≡ laid (now (out .entry)) n (fieldOf format.Matrix 0 at) ⌝ }
+fn matrix(width: Width, at: usize, out: &mut [u8], n: usize) -> usize
+    ensures { λ r. ⌜ (r, now (out .exit)) ≡ laid (now (out .entry)) n (fieldOf (format.Matrix (meantWidth width)) 0 at) ⌝ }
 {
+    // its place goes by the width: no constant for an arm
+    if at == SystemLocality::targets_at(width) {
+        return text::bytes(out, n, b"targets of the matrix");
+    }
     match at {
         SystemLocality::FLAGS_AT => text::bytes(out, n, b"flags of the matrix"),
         SystemLocality::DATA_TYPE_AT => text::bytes(out, n, b"data type of the matrix"),
         SystemLocality::TRANSFER_SIZE_AT => text::bytes(out, n, b"transfer size of the matrix"),
         SystemLocality::BASE_UNIT_AT => text::bytes(out, n, b"base unit of the matrix"),
         SystemLocality::INITIATORS_AT => text::bytes(out, n, b"initiators of the matrix"),
-        SystemLocality::TARGETS_AT => text::bytes(out, n, b"targets of the matrix"),
         _ => nothing(out, n),
     }
 }
 
-fn initiator(at: usize, out: &mut [u8], n: usize) -> usize
-    ensures { λ r. ⌜ (r, now (out .exit)) ≡ laid (now (out .entry)) n (fieldOf format.Initiator 0 at) ⌝ }
+fn initiator(width: Width, at: usize, out: &mut [u8], n: usize) -> usize
+    ensures { λ r. ⌜ (r, now (out .exit)) ≡ laid (now (out .entry)) n (fieldOf (format.Initiator (meantWidth width)) 0 at) ⌝ }
 {
-    match at {
-        Value::INDEX_AT => text::bytes(out, n, b"index of the initiator value"),
-        Value::VALUE_AT => text::bytes(out, n, b"value of the initiator value"),
-        _ => nothing(out, n),
+    if at == Value::INDEX_AT {
+        return text::bytes(out, n, b"index of the initiator value");
     }
+    if at == Value::value_at(width) {
+        return text::bytes(out, n, b"value of the initiator value");
+    }
+    nothing(out, n)
 }
 
-fn target(at: usize, out: &mut [u8], n: usize) -> usize
-    ensures { λ r. ⌜ (r, now (out .exit)) ≡ laid (now (out .entry)) n (fieldOf format.Target 0 at) ⌝ }
+fn target(width: Width, at: usize, out: &mut [u8], n: usize) -> usize
+    ensures { λ r. ⌜ (r, now (out .exit)) ≡ laid (now (out .entry)) n (fieldOf (format.Target (meantWidth width)) 0 at) ⌝ }
 {
-    match at {
-        Value::INDEX_AT => text::bytes(out, n, b"index of the target value"),
-        Value::VALUE_AT => text::bytes(out, n, b"value of the target value"),
-        _ => nothing(out, n),
+    if at == Value::INDEX_AT {
+        return text::bytes(out, n, b"index of the target value");
     }
+    if at == Value::value_at(width) {
+        return text::bytes(out, n, b"value of the target value");
+    }
+    nothing(out, n)
 }
 
-fn cell(at: usize, out: &mut [u8], n: usize) -> usize
-    ensures { λ r. ⌜ (r, now (out .exit)) ≡ laid (now (out .entry)) n (fieldOf format.Cell 0 at) ⌝ }
+fn cell(width: Width, at: usize, out: &mut [u8], n: usize) -> usize
+    ensures { λ r. ⌜ (r, now (out .exit)) ≡ laid (now (out .entry)) n (fieldOf (format.Cell (meantWidth width)) 0 at) ⌝ }
 {
-    match at {
-        Cell::INITIATOR_AT => text::bytes(out, n, b"initiator of the cell"),
-        Cell::TARGET_AT => text::bytes(out, n, b"target of the cell"),
-        Cell::VALUE_AT => text::bytes(out, n, b"value of the cell"),
-        _ => nothing(out, n),
+    if at == Cell::INITIATOR_AT {
+        return text::bytes(out, n, b"initiator of the cell");
     }
+    if at == Cell::target_at(width) {
+        return text::bytes(out, n, b"target of the cell");
+    }
+    if at == Cell::value_at(width) {
+        return text::bytes(out, n, b"value of the cell");
+    }
+    nothing(out, n)
 }
 
 fn side(at: usize, out: &mut [u8], n: usize) -> usize
@@ -282,10 +295,10 @@ fn field_of(kind: Kind, at: usize, out: &mut [u8], n: usize) -> usize
         Kind::Pci => pci(at, out, n),
         Kind::Rintc => rintc(at, out, n),
         Kind::Domain => domain(at, out, n),
-        Kind::Matrix => matrix(at, out, n),
-        Kind::Initiator => initiator(at, out, n),
-        Kind::Target => target(at, out, n),
-        Kind::Cell => cell(at, out, n),
+        Kind::Matrix => matrix(Width::Byte, at, out, n),
+        Kind::Initiator => initiator(Width::Byte, at, out, n),
+        Kind::Target => target(Width::Byte, at, out, n),
+        Kind::Cell => cell(Width::Byte, at, out, n),
         Kind::Side => side(at, out, n),
         Kind::Handle => handle(at, out, n),
         Kind::Bridge => bridge(at, out, n),
@@ -293,6 +306,10 @@ fn field_of(kind: Kind, at: usize, out: &mut [u8], n: usize) -> usize
         Kind::WindowTarget => window_target(at, out, n),
         Kind::Xor => xor(at, out, n),
         Kind::Map => map(at, out, n),
+        Kind::WideMatrix => matrix(Width::Pair, at, out, n),
+        Kind::WideInitiator => initiator(Width::Pair, at, out, n),
+        Kind::WideTarget => target(Width::Pair, at, out, n),
+        Kind::WideCell => cell(Width::Pair, at, out, n),
     }
 }
 

@@ -15,7 +15,8 @@ use Rattle.format.specs.Bytes.{Bytes, pick, at, le, part, over, sum, given}
 use Rattle.format.specs.Layout.{width, fields}
 use Rattle.format.specs.Table.{Table, pptt, front, limit}
 use Rattle.format.specs.Node.{Node, sizes}
-use Rattle.format.specs.Kind.{Kind, kindOf, body}
+use Rattle.format.specs.Form.{byte}
+use Rattle.format.specs.Kind.{Kind, kindOf, body, partIn, widthBehind}
 use Rattle.format.specs.Recipe.{Meaning, means, cut, added, meaning}
 use Rattle.format.specs.Build.{records, header, checkOf, summed, tableFrom, table}
 use Rattle.laws.proofs.Bytes.{bytes-drop, length-part, length-over, sum-append}
@@ -90,7 +91,7 @@ module _ (xs r : List ℕ) (t : Table) (m : Meaning) (s : State) (out ms : List 
   fs = frontOf t r (front t)
 
   held-room : front t + sizes (h .nodes) ≤ length xs
-  held-room = let k = run-keeps (headIn t r) (h .since) (h .nodes) (cut t 0 (s .at) (drop (s .at) r)) m (h .leads) .1 in omega (arith, h .space)
+  held-room = let k = run-keeps (headIn t r) (h .since) (h .width) (h .nodes) (cut t 0 (s .at) (drop (s .at) r)) m (h .leads) .1 in omega (arith, h .space)
 
   laid : Laid xs fs t (h .nodes) s out
   laid =
@@ -111,8 +112,8 @@ module _ (xs r : List ℕ) (t : Table) (m : Meaning) (s : State) (out ms : List 
     abbrev vs : List ℕ
     vs = fields (body k) (drop (suc (s .at)) r)
 
-    found : Turn (headIn t r) r (h .nodes) (s .at) k m
-    found = turn-as (headIn t r) (h .since) r (h .nodes) (s .at) m k l e (h .leads)
+    found : Turn (headIn t r) r (h .width) (h .nodes) (s .at) k m
+    found = turn-as (headIn t r) (h .since) r (h .width) (h .nodes) (s .at) m k l e (h .leads)
 
     pub whole : suc (s .at) + width (body k) ≤ length r
     whole = found .whole
@@ -125,17 +126,17 @@ module _ (xs r : List ℕ) (t : Table) (m : Meaning) (s : State) (out ms : List 
 
     good : Grown t (added k vs (h .nodes))
     good =
-        let g : Grown (kindHome k) (added k vs (h .nodes)) = grows k vs (h .nodes) fit (rw own (passed t (h .nodes) k vs (found .sound))) (found .free) (rw own (h .good)) in
+        let g : Grown (kindHome k) (added k vs (h .nodes)) = grows k vs (h .nodes) fit (rw own (passed t (h .width) (h .nodes) k vs (found .sound))) (found .free) (rw own (h .good)) in
         rw own at g
 
     turns : Turned xs fs t (h .nodes) (added k vs (h .nodes)) (changeOf k s vs) (wrote k s vs out)
     turns =
-        let g : Turned xs fs (kindHome k) (h .nodes) (added k vs (h .nodes)) (changeOf k s vs) (wrote k s vs out) = turned k vs (rw own laid) fit (rw own (passed t (h .nodes) k vs (found .sound))) (rw own good) in
+        let g : Turned xs fs (kindHome k) (h .nodes) (added k vs (h .nodes)) (changeOf k s vs) (wrote k s vs out) = turned k vs (rw own laid) fit (rw own (passed t (h .width) (h .nodes) k vs (found .sound))) (rw own good) in
         rw own at g
 
     more-room : length fs + sizes (added k vs (h .nodes)) ≤ length xs
     more-room =
-        let a = run-keeps (headIn t r) (found .since) (added k vs (h .nodes)) (cut t 0 (suc (s .at) + width (body k)) (drop (suc (s .at) + width (body k)) r)) m (found .leads) .1 in
+        let a = run-keeps (headIn t r) (found .since) (widthBehind (partIn k) (h .width)) (added k vs (h .nodes)) (cut t 0 (suc (s .at) + width (body k)) (drop (suc (s .at) + width (body k)) r)) m (found .leads) .1 in
         omega (arith, h .space, laid .long)
 
     -- the bytes that change stand in the buffer
@@ -146,7 +147,7 @@ module _ (xs r : List ℕ) (t : Table) (m : Meaning) (s : State) (out ms : List 
     longer = omega (arith, grown-by turns (h .held) more-room, h .ends)
 
     pub short : s .end + changeOf k s vs .more ≤ limit
-    short = omega (arith, longer, passed t (h .nodes) k vs (found .sound) .short)
+    short = omega (arith, longer, passed t (h .width) (h .nodes) k vs (found .sound) .short)
 
     -- what the marks lead to, if the record has a reference
     reached : (refers k (drop (suc (s .at)) r) ≡ 0 → ⊥) → Reaches out (h .nodes)
@@ -165,7 +166,7 @@ module _ (xs r : List ℕ) (t : Table) (m : Meaning) (s : State) (out ms : List 
     still : Every (Marked t (drop 1 (added k vs (h .nodes)))) ms
     still i y =
         let w = h .marked i y in
-        older-added (λ es. Marked t es (markIn (at ms i))) k vs (h .nodes) (passed t (h .nodes) k vs (found .sound) .place) (marked-newer t (h .nodes) (markIn (at ms i)) w) w
+        older-added (λ es. Marked t es (markIn (at ms i))) k vs (h .nodes) (passed t (h .width) (h .nodes) k vs (found .sound) .place) (marked-newer t (h .nodes) (markIn (at ms i)) w) w
 
     pub goes : (s′ : State) (w : ℕ) → s′ .at ≡ suc (s .at) + width (body k) → s′ .end ≡ s .end + changeOf k s vs .more → s′ .latest ≡ changeOf k s vs .latest
         → w ≡ (s .sum .value + checkOf (sum (part out (changeOf k s vs .from) (changeOf k s vs .len)))) % 256
@@ -180,8 +181,9 @@ module _ (xs r : List ℕ) (t : Table) (m : Meaning) (s : State) (out ms : List 
           space = h .space;
           nodes = added k vs (h .nodes);
           good = good;
-          short = passed t (h .nodes) k vs (found .sound) .short;
+          short = passed t (h .width) (h .nodes) k vs (found .sound) .short;
           since = found .since;
+          width = widthBehind (partIn k) (h .width);
           leads = rw ea (found .leads);
           ends = ee ∙ longer;
           place = rw el (turns .place);
@@ -250,6 +252,7 @@ module _ (xs r : List ℕ) (t : Table) (m : Meaning) (s : State) (out ms : List 
         good = h .good;
         short = h .short;
         since = h .since;
+        width = h .width;
         leads = h .leads;
         ends = h .ends;
         place = h .place;
@@ -303,6 +306,7 @@ started xs r t m s out ps d f bytes b e held sat send splace scount snodes ed ef
       good = inl tt;
       short = omega (arith, front-small t);
       since = 0;
+      width = byte;
       leads = rw (sat, ← for) leads;
       ends = send ∙ omega arith;
       place = splace ∙ omega arith;
@@ -330,7 +334,7 @@ unfolding table tableFrom summed cut
 ended xs r t m s out ms one two v h l e eo ev et =
     let is = part r 2 26 in
     let rs = records t (h .nodes) in
-    let same : means (headIn t r) (h .nodes) ≡ m = run-end (headIn t r) (h .since) (h .nodes) m (rw (drop-of-length-le r l) at (h .leads)) in
+    let same : means (headIn t r) (h .nodes) ≡ m = run-end (headIn t r) (h .since) (h .width) (h .nodes) m (rw (drop-of-length-le r l) at (h .leads)) in
     let lr : length rs ≡ sizes (h .nodes) = length-records t (h .nodes) in
     let len : front t + length rs ≡ s .end = omega (arith, h .ends) in
     let n = length (h .nodes) in
@@ -343,5 +347,5 @@ ended xs r t m s out ms one two v h l e eo ev et =
 pub unknown : {A : Type 0} (r : List ℕ) (t : Table) (s : State) (out ms : List ℕ) → Ready r t s out ms → s .at < length r → kindOf t (getD r (s .at) 0) ≡ none → A
 unknown r t s out ms y l e =
     let h = y .holds in
-    let (k, f, z) = turn (headIn t r) (h .since) r (h .nodes) (s .at) (y .meant) l (h .leads) in
+    let (k, f, z) = turn (headIn t r) (h .since) r (h .width) (h .nodes) (s .at) (y .meant) l (h .leads) in
     absurd (let z : _≡_ {A = ℕ} 0 1 = cc in omega arith)

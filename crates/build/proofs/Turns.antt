@@ -481,12 +481,12 @@ module _ {xs fs : List ℕ} {ns : List Node} {s : State} {out : List ℕ} where
   turned Pci vs h f p g = made h (node pci vs) 0 0 tt (bytes-plain (placeIn out) (placeOf (starts srat ns)) (node pci vs) tt)
   turned Rintc vs h f p g = made h (node rintc vs) 0 0 tt (bytes-plain (placeIn out) (placeOf (starts srat ns)) (node rintc vs) tt)
   turned Domain vs h f p g = made h (node domain vs) 0 0 tt (bytes-plain (placeIn out) (placeOf (starts hmat ns)) (node domain vs) tt)
-  turned Matrix vs h f p g = made h (unsetMatrix vs) (at vs 4) (at vs 5) (refl, refl) (bytes-plain (placeIn out) (placeOf (starts hmat ns)) (unsetMatrix vs) (plain-matrix (at vs 4) (at vs 5)))
-  turned Initiator vs h f p g =
+  turned (Matrix w) vs h f p g = made h (unsetMatrix vs) (at vs 4) (at vs 5) (refl, refl) (bytes-plain (placeIn out) (placeOf (starts hmat ns)) (unsetMatrix vs) (plain-matrix (at vs 4) (at vs 5)))
+  turned (Initiator w) vs h f p g =
       setting-turned xs fs s out (λ i t. ltb (at vs 0) i ∷ []) (initiator (at vs 0) (at vs 1)) (λ i t r. ltb-true (at vs 0) i r) (view ns) (p .place) (p .field) h
-  turned Target vs h f p g =
+  turned (Target w) vs h f p g =
       setting-turned xs fs s out (λ i t. ltb (at vs 0) t ∷ []) (target (at vs 0) (at vs 1)) (λ i t r. ltb-true (at vs 0) t r) (view ns) (p .place) (p .field) h
-  turned Cell vs h f p g =
+  turned (Cell w) vs h f p g =
       setting-turned xs fs s out (λ i t. ltb (at vs 0) i ∷ ltb (at vs 1) t ∷ []) (cell (at vs 0) (at vs 1) (at vs 2))
       (λ i t r. let (a, b) = both-true (ltb (at vs 0) i) (ltb (at vs 1) t) r in (ltb-true (at vs 0) i a, ltb-true (at vs 1) t b)) (view ns) (p .place) (p .field) h
   turned Side vs h f p g = made h (node (side 0) vs) 0 0 refl (bytes-plain (placeIn out) (placeOf (starts hmat ns)) (node (side 0) vs) tt)

@@ -13,7 +13,8 @@ use Rattle.format.specs.Bytes.{pick, at, part, Answer, refused, given, unless}
 use Rattle.format.specs.Layout.{width, fields}
 use Rattle.format.specs.Table.{Head, headOf}
 use Rattle.format.specs.Node.{Node, sizes}
-use Rattle.format.specs.Kind.{Kind, Processor, Resource, Cache, Memory, Acpi, Pci, Rintc, Domain, Matrix, Initiator, Target, Cell, Side, Handle, Bridge, Window, WindowTarget, Xor, Map, kindNumber, kindOf, noKind, body}
+use Rattle.format.specs.Form.{Width, byte}
+use Rattle.format.specs.Kind.{Kind, Processor, Resource, Cache, Memory, Acpi, Pci, Rintc, Domain, Matrix, Initiator, Target, Cell, Side, Handle, Bridge, Window, WindowTarget, Xor, Map, kindNumber, kindOf, noKind, body, partIn, widthBehind}
 use Rattle.format.specs.Recipe.{Calls, done, badKind, cutOff, called, cutAs, skip, cut, newest, joined, setting, changes, stray, step, added, fault, lacking, faultAt, Meaning, means, since, run, headed, meaning}
 use Rattle.format.specs.Build.{table}
 use Rattle.laws.proofs.Finds.{never, then-given, unless-given}
@@ -60,10 +61,10 @@ sizes-grow Acpi vs ns p = omega arith
 sizes-grow Pci vs ns p = omega arith
 sizes-grow Rintc vs ns p = omega arith
 sizes-grow Domain vs ns p = omega arith
-sizes-grow Matrix vs ns p = omega arith
-sizes-grow Initiator vs ns p = setting-grows (λ i t. ltb (at vs 0) i ∷ []) (λ i t. 4 + at vs 0) (at vs 1) (view ns) p
-sizes-grow Target vs ns p = setting-grows (λ i t. ltb (at vs 0) t ∷ []) (λ i t. 4 + i + at vs 0) (at vs 1) (view ns) p
-sizes-grow Cell vs ns p = setting-grows (λ i t. ltb (at vs 0) i ∷ ltb (at vs 1) t ∷ []) (λ i t. 4 + i + t + at vs 0 * t + at vs 1) (at vs 2) (view ns) p
+sizes-grow (Matrix w) vs ns p = omega arith
+sizes-grow (Initiator w) vs ns p = setting-grows (λ i t. ltb (at vs 0) i ∷ []) (λ i t. 4 + at vs 0) (at vs 1) (view ns) p
+sizes-grow (Target w) vs ns p = setting-grows (λ i t. ltb (at vs 0) t ∷ []) (λ i t. 4 + i + at vs 0) (at vs 1) (view ns) p
+sizes-grow (Cell w) vs ns p = setting-grows (λ i t. ltb (at vs 0) i ∷ ltb (at vs 1) t ∷ []) (λ i t. 4 + i + t + at vs 0 * t + at vs 1) (at vs 2) (view ns) p
 sizes-grow Side vs ns p = omega arith
 sizes-grow Handle vs ns p = joined-grows Handle vs (view ns) p
 sizes-grow Bridge vs ns p = omega arith
@@ -81,53 +82,53 @@ not-given e = absurd (let z : _≡_ {A = ℕ} 0 1 = cc in omega arith)
 never-given : {A : Type 0} (n q i p : ℕ) {m : Meaning} → unless {A = Meaning} n q (refused i p) ≡ given m → A
 never-given n q i p e = not-given (unless-given n q (refused i p) e .1)
 
-run-turn : (h : Head) (q : ℕ) (ns : List Node) (p : ℕ) (k : Kind) (vs : List ℕ) (rest : Calls) (m : Meaning) → run h q ns (called p k vs rest) ≡ given m
-    → (lacking (newest ns) (some k) ≡ 0) × (fault (h .table) ns k vs ≡ 0) × (run h (since ns (added k vs ns) p q) (added k vs ns) rest ≡ given m)
+run-turn : (h : Head) (q : ℕ) (u : Width) (ns : List Node) (p : ℕ) (k : Kind) (vs : List ℕ) (rest : Calls) (m : Meaning) → run h q u ns (called p k vs rest) ≡ given m
+    → (lacking (newest ns) (some k) ≡ 0) × (fault (h .table) u ns k vs ≡ 0) × (run h (since ns (added k vs ns) p q) (widthBehind (partIn k) u) (added k vs ns) rest ≡ given m)
 unfolding run
-run-turn h q ns p k vs rest m e =
-    let n = fault (h .table) ns k vs in
+run-turn h q u ns p k vs rest m e =
+    let n = fault (h .table) u ns k vs in
     let (i, d) = unless-given (lacking (newest ns) (some k)) q _ e in
-    let (z, r) = unless-given n (p + faultAt n k (step k vs ns .ranges)) (run h (since ns (added k vs ns) p q) (added k vs ns) rest) d in
+    let (z, r) = unless-given n (p + faultAt n k (step k vs ns .ranges)) (run h (since ns (added k vs ns) p q) (widthBehind (partIn k) u) (added k vs ns) rest) d in
     (i, z, r)
 
-pub run-end : (h : Head) (q : ℕ) (ns : List Node) (m : Meaning) → run h q ns done ≡ given m → means h ns ≡ m
+pub run-end : (h : Head) (q : ℕ) (u : Width) (ns : List Node) (m : Meaning) → run h q u ns done ≡ given m → means h ns ≡ m
 unfolding run
-run-end h q ns m e =
+run-end h q u ns m e =
     let (i, d) = unless-given (lacking (newest ns) none) q (given (means h ns)) e in
     cc
 
 -- the head stays, and the nodes only grow
-pub run-keeps : (h : Head) (q : ℕ) (ns : List Node) (cs : Calls) (m : Meaning) → run h q ns cs ≡ given m → (h ≡ m .head) × (sizes ns ≤ sizes (m .nodes))
+pub run-keeps : (h : Head) (q : ℕ) (u : Width) (ns : List Node) (cs : Calls) (m : Meaning) → run h q u ns cs ≡ given m → (h ≡ m .head) × (sizes ns ≤ sizes (m .nodes))
 unfolding run
-run-keeps h q ns done m e = let z = run-end h q ns m e in rw (← z) (refl, omega arith)
-run-keeps h q ns (badKind n p) m e = never-given (lacking (newest ns) none) q n p e
-run-keeps h q ns (cutOff p k) m e = never-given (lacking (newest ns) (some k)) q 3 p e
-run-keeps h q ns (called p k vs rest) m e =
-    let (i, z, r) = run-turn h q ns p k vs rest m e in
-    let (a, b) = run-keeps h (since ns (added k vs ns) p q) (added k vs ns) rest m r in
-    (a, omega (arith, sizes-grow k vs ns (passed (h .table) ns k vs z .place)))
+run-keeps h q u ns done m e = let z = run-end h q u ns m e in rw (← z) (refl, omega arith)
+run-keeps h q u ns (badKind n p) m e = never-given (lacking (newest ns) none) q n p e
+run-keeps h q u ns (cutOff p k) m e = never-given (lacking (newest ns) (some k)) q 3 p e
+run-keeps h q u ns (called p k vs rest) m e =
+    let (i, z, r) = run-turn h q u ns p k vs rest m e in
+    let (a, b) = run-keeps h (since ns (added k vs ns) p q) (widthBehind (partIn k) u) (added k vs ns) rest m r in
+    (a, omega (arith, sizes-grow k vs ns (passed (h .table) u ns k vs z .place)))
 
 -- ---- the record at a place
 
 -- the record is whole, is not refused, and the rest leads on
-pub record Turn (h : Head) (r : List ℕ) (ns : List Node) (p : ℕ) (k : Kind) (m : Meaning) : Type 0 where
+pub record Turn (h : Head) (r : List ℕ) (u : Width) (ns : List Node) (p : ℕ) (k : Kind) (m : Meaning) : Type 0 where
   pub whole : suc p + width (body k) ≤ length r
   pub free : lacking (newest ns) (some k) ≡ 0
-  pub sound : fault (h .table) ns k (fields (body k) (drop (suc p) r)) ≡ 0
+  pub sound : fault (h .table) u ns k (fields (body k) (drop (suc p) r)) ≡ 0
   pub since : ℕ
-  pub leads : run h since (added k (fields (body k) (drop (suc p) r)) ns) (cut (h .table) 0 (suc p + width (body k)) (drop (suc p + width (body k)) r)) ≡ given m
+  pub leads : run h since (widthBehind (partIn k) u) (added k (fields (body k) (drop (suc p) r)) ns) (cut (h .table) 0 (suc p + width (body k)) (drop (suc p + width (body k)) r)) ≡ given m
 
-module _ (h : Head) (q : ℕ) (r : List ℕ) (ns : List Node) (p : ℕ) (m : Meaning) where
+module _ (h : Head) (q : ℕ) (r : List ℕ) (u : Width) (ns : List Node) (p : ℕ) (m : Meaning) where
   turn-at : (k : Kind) (x : Bool) → p < length r → ltb (length (drop (suc p) r)) (width (body k)) ≡ x
-      → run h q ns (pick x (cutOff p k) (called p k (fields (body k) (drop (suc p) r)) (cut (h .table) (width (body k)) (suc p) (drop (suc p) r)))) ≡ given m
-      → Turn h r ns p k m
+      → run h q u ns (pick x (cutOff p k) (called p k (fields (body k) (drop (suc p) r)) (cut (h .table) (width (body k)) (suc p) (drop (suc p) r)))) ≡ given m
+      → Turn h r u ns p k m
   unfolding run
   turn-at k true l e f = never-given (lacking (newest ns) (some k)) q 3 p f
   turn-at k false l e f =
       let d : length (drop (suc p) r) ≡ length r - suc p = length-drop (suc p) r in
       let w : width (body k) ≤ length (drop (suc p) r) = ltb-false (length (drop (suc p) r)) (width (body k)) e in
       let vs = fields (body k) (drop (suc p) r) in
-      let (i, z, g) = run-turn h q ns p k vs (cut (h .table) (width (body k)) (suc p) (drop (suc p) r)) m f in
+      let (i, z, g) = run-turn h q u ns p k vs (cut (h .table) (width (body k)) (suc p) (drop (suc p) r)) m f in
       record { whole = omega arith; free = i; sound = z; since = since ns (added k vs ns) p q; leads = rw (cut-skip (h .table) (width (body k)) (suc p) (drop (suc p) r), drop-drop) at g }
 
   cut-first : p < length r → cut (h .table) 0 p (drop p r) ≡ cutAs (kindOf (h .table) (getD r p 0)) (noKind (h .table) (getD r p 0)) (drop (suc p) r) p (cut (h .table) (skip (kindOf (h .table) (getD r p 0))) (suc p) (drop (suc p) r))
@@ -135,27 +136,27 @@ module _ (h : Head) (q : ℕ) (r : List ℕ) (ns : List Node) (p : ℕ) (m : Mea
   cut-first l = rw (drop-cons r p 0 l)
 
   -- the same for a kind that is known
-  pub turn-as : (k : Kind) → p < length r → kindOf (h .table) (getD r p 0) ≡ some k → run h q ns (cut (h .table) 0 p (drop p r)) ≡ given m → Turn h r ns p k m
+  pub turn-as : (k : Kind) → p < length r → kindOf (h .table) (getD r p 0) ≡ some k → run h q u ns (cut (h .table) 0 p (drop p r)) ≡ given m → Turn h r u ns p k m
   unfolding cutAs
   turn-as k l e f = turn-at k (ltb (length (drop (suc p) r)) (width (body k))) l refl (rw (cut-first l, e) at f)
 
-  as-kind : (o : Option Kind) (why : ℕ) → p < length r → run h q ns (cutAs o why (drop (suc p) r) p (cut (h .table) (skip o) (suc p) (drop (suc p) r))) ≡ given m → (k : Kind) × (o ≡ some k) × Turn h r ns p k m
+  as-kind : (o : Option Kind) (why : ℕ) → p < length r → run h q u ns (cutAs o why (drop (suc p) r) p (cut (h .table) (skip o) (suc p) (drop (suc p) r))) ≡ given m → (k : Kind) × (o ≡ some k) × Turn h r u ns p k m
   unfolding cutAs run
   as-kind none why l e = never-given (lacking (newest ns) none) q why p e
   as-kind (some k) why l e = (k, refl, turn-at k (ltb (length (drop (suc p) r)) (width (body k))) l refl e)
 
-  pub turn : p < length r → run h q ns (cut (h .table) 0 p (drop p r)) ≡ given m → (k : Kind) × (kindOf (h .table) (getD r p 0) ≡ some k) × Turn h r ns p k m
+  pub turn : p < length r → run h q u ns (cut (h .table) 0 p (drop p r)) ≡ given m → (k : Kind) × (kindOf (h .table) (getD r p 0) ≡ some k) × Turn h r u ns p k m
   turn l e = as-kind (kindOf (h .table) (getD r p 0)) (noKind (h .table) (getD r p 0)) l (rw (cut-first l) at e)
 
 -- ---- the head
 
 -- a recipe with a meaning has a head, from which its records lead there
 pub from-head : (r : List ℕ) (m : Meaning) → meaning r ≡ given m
-    → (28 ≤ length r) × (m .head ≡ headOf (m .head .table) (part r 2 26)) × (run (headOf (m .head .table) (part r 2 26)) 0 [] (cut (m .head .table) 0 28 (drop 28 r)) ≡ given m)
+    → (28 ≤ length r) × (m .head ≡ headOf (m .head .table) (part r 2 26)) × (run (headOf (m .head .table) (part r 2 26)) 0 byte [] (cut (m .head .table) 0 28 (drop 28 r)) ≡ given m)
 unfolding meaning
 from-head r m e =
-    let (h, d, f) = then-given (headed r) (λ h. run h 0 [] (cut (h .table) 0 28 (drop 28 r))) e in
+    let (h, d, f) = then-given (headed r) (λ h. run h 0 byte [] (cut (h .table) 0 28 (drop 28 r))) e in
     let (own, n) = headed-given r h d in
-    let k = run-keeps h 0 [] (cut (h .table) 0 28 (drop 28 r)) m f .0 in
+    let k = run-keeps h 0 byte [] (cut (h .table) 0 28 (drop 28 r)) m f .0 in
     let own′ : m .head ≡ headOf (m .head .table) (part r 2 26) = rw k at own in
     (n, own′, rw (← own′) (rw k at f))

@@ -6,6 +6,7 @@ use lib.ListN.{length, drop}
 use lib.Dec.{eqb}
 use Rattle.format.specs.Bytes.{Bytes, pick, part, over, sum, given}
 use Rattle.format.specs.Table.{Table, pptt, Head, headOf, front, limit}
+use Rattle.format.specs.Form.{Width}
 use Rattle.format.specs.Node.{Node, sizes}
 use Rattle.format.specs.Recipe.{Meaning, Newest, aList, aMatrix, other, newest, cut, run, meaning}
 use Rattle.format.specs.Build.{records, header}
@@ -72,7 +73,9 @@ pub record Held (xs r : List ℕ) (t : Table) (m : Meaning) (s : State) (out ms 
   pub good : Grown t nodes
   pub short : front t + sizes nodes ≤ limit
   pub since : ℕ
-  pub leads : run (headIn t r) since nodes (cut t 0 (s .at) (drop (s .at) r)) ≡ given m
+  -- how wide the newest matrix's counts are written
+  pub width : Width
+  pub leads : run (headIn t r) since width nodes (cut t 0 (s .at) (drop (s .at) r)) ≡ given m
   pub ends : s .end ≡ front t + sizes nodes
   pub place : s .latest .place ≡ front t + sizes (drop 1 nodes)
   pub counts : Counts (newest nodes) (s .latest)

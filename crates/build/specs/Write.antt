@@ -1,13 +1,13 @@
 -- What the writing pass does, record by record: the bytes of the buffer, and the numbers that the pass keeps.
 use mathlib.Core.Path.{_≡_}
-use Prim.Native.Nat.{ℕ, zero, suc, _+_, _-_, _%_}
+use Prim.Native.Nat.{ℕ, zero, suc, _+_, _-_, _*_, _%_}
 use mathlib.Core.List.{List}
 use lib.Dec.{eqb}
-use Rattle.format.specs.Bytes.{pick, at, le, over}
-use Rattle.format.specs.Form.{processor, cache, memory, acpi, pci, rintc, domain, matrix, side, bridge, window, xor, registers, ways, size}
-use Rattle.format.specs.Layout.{fld, to, wide}
+use Rattle.format.specs.Bytes.{pick, at, le, value, part, over}
+use Rattle.format.specs.Form.{processor, cache, memory, acpi, pci, rintc, domain, matrix, side, bridge, window, xor, Width, octets, registers, ways, size}
+use Rattle.format.specs.Layout.{fld, to, wide, width}
 use Rattle.format.specs.Node.{Node, node, bytes}
-use Rattle.format.specs.Kind.{Kind, Processor, Resource, Cache, Memory, Acpi, Pci, Rintc, Domain, Matrix, Initiator, Target, Cell, Side, Handle, Bridge, Window, WindowTarget, Xor, Map}
+use Rattle.format.specs.Kind.{Kind, Processor, Resource, Cache, Memory, Acpi, Pci, Rintc, Domain, Matrix, Initiator, Target, Cell, Side, Handle, Bridge, Window, WindowTarget, Xor, Map, body}
 use Rattle.format.specs.Recipe.{unset}
 use Rattle.pptt.specs.Processor as pptt
 use Rattle.hmat.specs.Hmat as hmat
@@ -46,6 +46,28 @@ settingAt s x = matrices.placeIn (s .latest .place) (s .latest .initiators) (s .
 abbrev pub sets : State → Setting → List ℕ → List ℕ
 sets s x out = over out (settingAt s x) (le (matrices.wideIn x) (setTo x))
 
+-- ---- the record of a cell at p of a recipe r, whose indices are of width w
+
+-- the length of its body
+abbrev pub bodyWidth : Width → ℕ
+bodyWidth w = width (body (Cell w))
+
+-- its indices, and its number
+abbrev pub rowIn : Width → List ℕ → ℕ → ℕ
+rowIn w r p = value (part r (p + 1) (octets w))
+
+abbrev pub columnIn : Width → List ℕ → ℕ → ℕ
+columnIn w r p = value (part r (p + 1 + octets w) (octets w))
+
+abbrev pub valueIn : Width → List ℕ → ℕ → ℕ
+valueIn w r p = value (part r (p + 1 + octets w + octets w) 2)
+
+-- its place, of the matrix of so many targets whose first cell starts at a place
+abbrev pub entryAt : Width → List ℕ → ℕ → ℕ → ℕ → ℕ
+entryAt w r p cells targets = cells + 2 * (rowIn w r p * targets + columnIn w r p)
+
+-- ---- the buffer, continued
+
 -- the place of the newest window's next target
 abbrev pub targetAt : State → ℕ
 targetAt s = cedt.targetIn (s .latest .place) (s .latest .count)
@@ -60,10 +82,10 @@ wrote Acpi s vs out = appended (s .end) (node acpi vs) out
 wrote Pci s vs out = appended (s .end) (node pci vs) out
 wrote Rintc s vs out = appended (s .end) (node rintc vs) out
 wrote Domain s vs out = appended (s .end) (node domain vs) out
-wrote Matrix s vs out = appended (s .end) (unsetMatrix vs) out
-wrote Initiator s vs out = sets s (initiator (at vs 0) (at vs 1)) out
-wrote Target s vs out = sets s (target (at vs 0) (at vs 1)) out
-wrote Cell s vs out = sets s (cell (at vs 0) (at vs 1) (at vs 2)) out
+wrote (Matrix w) s vs out = appended (s .end) (unsetMatrix vs) out
+wrote (Initiator w) s vs out = sets s (initiator (at vs 0) (at vs 1)) out
+wrote (Target w) s vs out = sets s (target (at vs 0) (at vs 1)) out
+wrote (Cell w) s vs out = sets s (cell (at vs 0) (at vs 1) (at vs 2)) out
 wrote Side s vs out = appended (s .end) (node (side 0) vs) out
 wrote Handle s vs out = hmat.grown out (s .latest .place) (s .latest .count) (at vs 0)
 wrote Bridge s vs out = appended (s .end) (node (bridge (registers (at vs 1))) vs) out
@@ -105,10 +127,10 @@ changeOf Acpi s vs = making s (size acpi) 0 0
 changeOf Pci s vs = making s (size pci) 0 0
 changeOf Rintc s vs = making s (size rintc) 0 0
 changeOf Domain s vs = making s (size domain) 0 0
-changeOf Matrix s vs = making s (size (matrix (at vs 4) (at vs 5))) (at vs 4) (at vs 5)
-changeOf Initiator s vs = setting s (initiator (at vs 0) (at vs 1))
-changeOf Target s vs = setting s (target (at vs 0) (at vs 1))
-changeOf Cell s vs = setting s (cell (at vs 0) (at vs 1) (at vs 2))
+changeOf (Matrix w) s vs = making s (size (matrix (at vs 4) (at vs 5))) (at vs 4) (at vs 5)
+changeOf (Initiator w) s vs = setting s (initiator (at vs 0) (at vs 1))
+changeOf (Target w) s vs = setting s (target (at vs 0) (at vs 1))
+changeOf (Cell w) s vs = setting s (cell (at vs 0) (at vs 1) (at vs 2))
 changeOf Side s vs = making s (size (side 0)) 0 0
 changeOf Handle s vs = growing s (size (side 0)) (wide (fld 2))
 changeOf Bridge s vs = making s (size (bridge 0)) 0 0

@@ -5,14 +5,15 @@ ghost use mathlib.Core.List.{List, []};
 ghost use lib.ListN.{length};
 ghost use Rattle.format.specs.Bytes.{at as atByte, le, value, part, over, sum as sumOf, given};
 ghost use Rattle.format.specs.Layout.{width, fields};
-ghost use Rattle.format.specs.Table.{front, limit};
+ghost use Rattle.format.specs.Table.{hmat, front, limit};
 ghost use Rattle.format.specs.Kind.{body};
 ghost use Rattle.format.specs.Kind as format;
 ghost use Rattle.format.specs.Recipe.{Meaning, meaning};
 ghost use Rattle.format.specs.Build.{checkOf, build, table as tableOf, built};
 ghost use Rattle.header.specs.Header.{meant};
 ghost use Rattle.recipe.specs.Kinds.{meantKind, referenceOf, ordinalIn};
-ghost use Rattle.build.specs.Write.{hops, placeIn, wrote, making, counting, growing, filling, changeOf, Changes};
+ghost use Rattle.hmat.specs.Widths.{meantWidth};
+ghost use Rattle.build.specs.Write.{hops, placeIn, bodyWidth, valueIn, entryAt, wrote, making, counting, growing, filling, changeOf, Changes};
 ghost use Rattle.build.specs.Held.{frontOf, Leads, Placed, keptWith, Held, Ready, Goes, Ends, Small, Builds};
 ghost use Rattle.marks.specs.Marks.{Every};
 ghost use Rattle.recipe.specs.Answers.{number};
@@ -31,6 +32,7 @@ use hmat::MemorySideCache;
 use hmat::SmbiosHandle;
 use hmat::SystemLocality;
 use hmat::Value;
+use hmat::Width;
 use marks::Mark;
 use pptt::CacheHandle;
 use pptt::CacheNode;
@@ -195,29 +197,19 @@ fn keep(latest: Latest, marks: &mut [u64], shift: u32)
 // ---- HMAT
 
 // Sets a value of the newest matrix, whose place is known.
-fn set_value(bytes: &[u8], out: &mut [u8], place: usize)
-    requires { ⌜ (width (body format.Initiator) ≤ length (now bytes)) × (place + 4 ≤ length (now out)) ⌝ }
-    ensures { λ _. ⌜ now (out .exit) ≡ over (now (out .entry)) place (le 4 (atByte (fields (body format.Initiator) (now (bytes .entry))) 1)) ⌝ }
+fn set_value(width: Width, bytes: &[u8], out: &mut [u8], place: usize)
+    requires { ⌜ place + 4 ≤ length (now out) ⌝ }
+    ensures { λ _. ⌜ now (out .exit) ≡ over (now (out .entry)) place (le 4 (atByte (fields (body (format.Initiator (meantWidth width))) (now (bytes .entry))) 1)) ⌝ }
 {
-    let x = Value::from_body(&bytes[..Value::BODY]);
+    let x = Value::from_body(width, bytes);
     let end = place + Value::LEN;
     field::put_u32(&mut out[place..end], 0, x.value);
 }
 
-fn set_cell(bytes: &[u8], out: &mut [u8], s: State)
-    ensures { λ _. ⌜ now (out .exit) ≡ wrote format.Cell s (fields (body format.Cell) (now (bytes .entry))) (now (out .entry)) ⌝ }
+fn set_cell(width: Width, bytes: &[u8], out: &mut [u8], place: usize)
+    ensures { λ _. ⌜ now (out .exit) ≡ over (now (out .entry)) place (le 2 (atByte (fields (body (format.Cell (meantWidth width))) (now (bytes .entry))) 2)) ⌝ }
 {
-    let latest = s.latest;
-    let x = Cell::from_body(bytes);
-    SystemLocality::set_entry_value(
-        out,
-        latest.place,
-        latest.initiators,
-        latest.targets,
-        x.initiator_idx as u32,
-        x.target_idx as u32,
-        x.value,
-    );
+    field::put_u16(out, place, Cell::from_body(width, bytes).value);
 }
 
 // ---- one record
@@ -252,10 +244,10 @@ fn put(kind: Kind, bytes: &[u8], out: &mut [u8], s: State, found: Found, change:
             out,
             end,
         ),
-        Kind::Matrix => SystemLocality::from_body(bytes).put(out, end),
-        Kind::Initiator => set_value(bytes, out, change.from),
-        Kind::Target => set_value(bytes, out, change.from),
-        Kind::Cell => set_cell(bytes, out, s),
+        Kind::Matrix => SystemLocality::from_body(Width::Byte, bytes).put(out, end),
+        Kind::Initiator => set_value(Width::Byte, bytes, out, change.from),
+        Kind::Target => set_value(Width::Byte, bytes, out, change.from),
+        Kind::Cell => set_cell(Width::Byte, bytes, out, change.from),
         Kind::Side => MemorySideCache::from_body(&bytes[..MemorySideCache::BODY]).put(out, end),
         Kind::Handle => MemorySideCache::grow(
             out,
@@ -278,6 +270,10 @@ fn put(kind: Kind, bytes: &[u8], out: &mut [u8], s: State, found: Found, change:
             latest.count as u16,
             XorMap::from_body(&bytes[..XorMap::BODY]),
         ),
+        Kind::WideMatrix => SystemLocality::from_body(Width::Pair, bytes).put(out, end),
+        Kind::WideInitiator => set_value(Width::Pair, bytes, out, change.from),
+        Kind::WideTarget => set_value(Width::Pair, bytes, out, change.from),
+        Kind::WideCell => set_cell(Width::Pair, bytes, out, change.from),
     }
 }
 
@@ -359,45 +355,45 @@ impl State {
 }
 
 // A matrix is made at the end.
-fn making_matrix(bytes: &[u8], s: State) -> Change
+fn making_matrix(width: Width, bytes: &[u8], s: State) -> Change
     requires { ⌜ Small s ⌝ }
-    ensures { λ r. ⌜ r ≡ changeOf format.Matrix s (fields (body format.Matrix) (now (bytes .entry))) ⌝ }
+    ensures { λ r. ⌜ r ≡ changeOf (format.Matrix (meantWidth width)) s (fields (body (format.Matrix (meantWidth width))) (now (bytes .entry))) ⌝ }
 {
-    let node = SystemLocality::from_body(bytes);
+    let node = SystemLocality::from_body(width, bytes);
     s.making(node.len(), node.initiators, node.targets)
 }
 
 // A value or a cell of the newest matrix is set.
-fn setting_initiator(bytes: &[u8], s: State) -> Change
+fn setting_initiator(width: Width, bytes: &[u8], s: State) -> Change
     requires { ⌜ Small s ⌝ }
-    ensures { λ r. ⌜ r ≡ changeOf format.Initiator s (fields (body format.Initiator) (now (bytes .entry))) ⌝ }
+    ensures { λ r. ⌜ r ≡ changeOf (format.Initiator (meantWidth width)) s (fields (body (format.Initiator (meantWidth width))) (now (bytes .entry))) ⌝ }
 {
     let latest = s.latest;
-    let idx = Value::from_body(bytes).idx as usize;
+    let idx = Value::from_body(width, bytes).idx as usize;
     s.setting(
         SystemLocality::initiator_place(latest.place, idx),
         Value::LEN,
     )
 }
 
-fn setting_target(bytes: &[u8], s: State) -> Change
+fn setting_target(width: Width, bytes: &[u8], s: State) -> Change
     requires { ⌜ Small s ⌝ }
-    ensures { λ r. ⌜ r ≡ changeOf format.Target s (fields (body format.Target) (now (bytes .entry))) ⌝ }
+    ensures { λ r. ⌜ r ≡ changeOf (format.Target (meantWidth width)) s (fields (body (format.Target (meantWidth width))) (now (bytes .entry))) ⌝ }
 {
     let latest = s.latest;
-    let idx = Value::from_body(bytes).idx as usize;
+    let idx = Value::from_body(width, bytes).idx as usize;
     s.setting(
         SystemLocality::target_place(latest.place, latest.initiators as usize, idx),
         Value::LEN,
     )
 }
 
-fn setting_cell(bytes: &[u8], s: State) -> Change
+fn setting_cell(width: Width, bytes: &[u8], s: State) -> Change
     requires { ⌜ Small s ⌝ }
-    ensures { λ r. ⌜ r ≡ changeOf format.Cell s (fields (body format.Cell) (now (bytes .entry))) ⌝ }
+    ensures { λ r. ⌜ r ≡ changeOf (format.Cell (meantWidth width)) s (fields (body (format.Cell (meantWidth width))) (now (bytes .entry))) ⌝ }
 {
     let latest = s.latest;
-    let x = Cell::from_body(bytes);
+    let x = Cell::from_body(width, bytes);
     s.setting(
         SystemLocality::cell_place(
             latest.place,
@@ -445,10 +441,10 @@ fn change_of(kind: Kind, bytes: &[u8], s: State) -> Change
         Kind::Pci => s.making(GenericInitiator::LEN, 0, 0),
         Kind::Rintc => s.making(RintcAffinity::LEN, 0, 0),
         Kind::Domain => s.making(MemoryProximityDomain::LEN, 0, 0),
-        Kind::Matrix => making_matrix(bytes, s),
-        Kind::Initiator => setting_initiator(bytes, s),
-        Kind::Target => setting_target(bytes, s),
-        Kind::Cell => setting_cell(bytes, s),
+        Kind::Matrix => making_matrix(Width::Byte, bytes, s),
+        Kind::Initiator => setting_initiator(Width::Byte, bytes, s),
+        Kind::Target => setting_target(Width::Byte, bytes, s),
+        Kind::Cell => setting_cell(Width::Byte, bytes, s),
         Kind::Side => s.making(MemorySideCache::LEN, 0, 0),
         Kind::Handle => s.growing(MemorySideCache::LEN, SmbiosHandle::LEN),
         Kind::Bridge => s.making(CxlHostBridge::LEN, 0, 0),
@@ -456,6 +452,10 @@ fn change_of(kind: Kind, bytes: &[u8], s: State) -> Change
         Kind::WindowTarget => filling_window(s),
         Kind::Xor => s.making(XorInterleaveMath::LEN, 0, 0),
         Kind::Map => s.growing(XorInterleaveMath::LEN, XorMap::LEN),
+        Kind::WideMatrix => making_matrix(Width::Pair, bytes, s),
+        Kind::WideInitiator => setting_initiator(Width::Pair, bytes, s),
+        Kind::WideTarget => setting_target(Width::Pair, bytes, s),
+        Kind::WideCell => setting_cell(Width::Pair, bytes, s),
     }
 }
 
@@ -524,6 +524,10 @@ fn before(kind: Kind, out: &[u8], change: Change, sum: Checksum) -> Checksum
         Kind::WindowTarget => without(out, from, CxlTarget::LEN, sum),
         Kind::Xor => sum,
         Kind::Map => without(out, from, XorInterleaveMath::LEN, sum),
+        Kind::WideMatrix => sum,
+        Kind::WideInitiator => without(out, from, Value::LEN, sum),
+        Kind::WideTarget => without(out, from, Value::LEN, sum),
+        Kind::WideCell => without(out, from, Cell::LEN, sum),
     }
 }
 
@@ -562,6 +566,10 @@ fn after(kind: Kind, out: &[u8], change: Change, end: usize, sum: Checksum) -> C
             let sum = with(out, from, XorInterleaveMath::LEN, sum);
             with_more(out, end, XorMap::LEN, sum)
         }
+        Kind::WideMatrix => with_more(out, end, change.more, sum),
+        Kind::WideInitiator => with(out, from, Value::LEN, sum),
+        Kind::WideTarget => with(out, from, Value::LEN, sum),
+        Kind::WideCell => with(out, from, Cell::LEN, sum),
     }
 }
 
@@ -640,36 +648,34 @@ fn start(recipe: &[u8], table: Table, out: &mut [u8]) -> State
     }
 }
 
-// Writes the cell of the record at a place; cells: where the matrix has its first.
+// Writes the cell of the record at a place; cells: where the matrix has its first. Each width has a window of its own length.
 fn put_cell(
     recipe: &[u8],
     at: usize,
+    width: Width,
     cells: usize,
     targets: u32,
     out: &mut [u8],
     sum: Checksum,
 ) -> Checksum
-    requires { ⌜ (at + 5 ≤ length (now recipe)) × (cells + 2 * (atByte (now recipe) (at + 1) * targets + atByte (now recipe) (at + 2)) + 2 ≤ length (now out)) ⌝ }
-    ensures { λ _. ⌜ now (out .exit) ≡ over (now (out .entry)) (cells + 2 * (atByte (now (recipe .entry)) (at + 1) * targets + atByte (now (recipe .entry)) (at + 2))) (le 2 (value (part (now (recipe .entry)) (at + 3) 2))) ⌝ }
-    ensures { λ r. ⌜ r .value ≡ (sum .value + checkOf (sumOf (part (now (out .entry)) (cells + 2 * (atByte (now (recipe .entry)) (at + 1) * targets + atByte (now (recipe .entry)) (at + 2))) 2)) + sumOf (le 2 (value (part (now (recipe .entry)) (at + 3) 2)))) % 256 ⌝ }
+    requires { ⌜ (at + 1 + bodyWidth (meantWidth width) ≤ length (now recipe)) × (entryAt (meantWidth width) (now recipe) at cells targets + 2 ≤ length (now out)) ⌝ }
+    ensures { λ _. ⌜ now (out .exit) ≡ over (now (out .entry)) (entryAt (meantWidth width) (now (recipe .entry)) at cells targets) (le 2 (valueIn (meantWidth width) (now (recipe .entry)) at)) ⌝ }
+    ensures { λ r. ⌜ r .value ≡ (sum .value + checkOf (sumOf (part (now (out .entry)) (entryAt (meantWidth width) (now (recipe .entry)) at cells targets) 2)) + sumOf (le 2 (valueIn (meantWidth width) (now (recipe .entry)) at))) % 256 ⌝ }
 {
     let from = at + 1;
-    let end = from + Cell::BODY;
-    let cell = Cell::from_body(&recipe[from..end]);
+    let end = from + Cell::body_len(width);
+    let cell = Cell::from_body(width, &recipe[from..end]);
     let i = cell.initiator_idx as u32;
     let t = cell.target_idx as u32;
     let place = SystemLocality::entry_place(cells, targets, i, t);
     replace(out, place, cell.value, sum)
 }
 
-// Writes the cells that follow, one record after the other, as step does; no other table has any.
-fn put_cells(recipe: &[u8], table: Table, out: &mut [u8], s: State) -> State
-    requires { ⌜ ((ms : List ℕ) × Ready (now recipe) (meant table) s (now out) ms) ⌝ }
-    ensures { λ r. ⌜ (s .at ≤ r .at) × Goes (now (recipe .entry)) (meant table) s (now (out .entry)) r (now (out .exit)) ⌝ }
+// Writes the cells of a width that follow, one record after the other, as step does.
+fn put_run(recipe: &[u8], width: Width, out: &mut [u8], s: State) -> State
+    requires { ⌜ ((ms : List ℕ) × Ready (now recipe) hmat s (now out) ms) ⌝ }
+    ensures { λ r. ⌜ (s .at ≤ r .at) × Goes (now (recipe .entry)) hmat s (now (out .entry)) r (now (out .exit)) ⌝ }
 {
-    let Table::Hmat = table else {
-        return s;
-    };
     let latest = s.latest;
     let targets = latest.targets;
     let cells = SystemLocality::target_place(
@@ -677,11 +683,13 @@ fn put_cells(recipe: &[u8], table: Table, out: &mut [u8], s: State) -> State
         latest.initiators as usize,
         targets as usize,
     );
+    let kind = Cell::kind(width);
+    let len = 1 + Cell::body_len(width);
     let end = s.end;
     let mut at = s.at;
     let mut sum = s.sum;
     while at < recipe.len() {
-        if recipe[at] != Cell::KIND {
+        if recipe[at] != kind {
             return State {
                 at,
                 end,
@@ -689,8 +697,8 @@ fn put_cells(recipe: &[u8], table: Table, out: &mut [u8], s: State) -> State
                 sum,
             };
         }
-        sum = put_cell(recipe, at, cells, targets, out, sum);
-        at = at + 1 + Cell::BODY;
+        sum = put_cell(recipe, at, width, cells, targets, out, sum);
+        at = at + len;
     }
     State {
         at,
@@ -698,6 +706,22 @@ fn put_cells(recipe: &[u8], table: Table, out: &mut [u8], s: State) -> State
         latest,
         sum,
     }
+}
+
+// The same of either width; no other table has any.
+fn put_cells(recipe: &[u8], table: Table, out: &mut [u8], s: State) -> State
+    requires { ⌜ ((ms : List ℕ) × Ready (now recipe) (meant table) s (now out) ms) ⌝ }
+    ensures { λ r. ⌜ (s .at ≤ r .at) × Goes (now (recipe .entry)) (meant table) s (now (out .entry)) r (now (out .exit)) ⌝ }
+{
+    let Table::Hmat = table else {
+        return s;
+    };
+    let width = match field::get_u8(recipe, s.at) {
+        Cell::KIND => Width::Byte,
+        Cell::WIDE_KIND => Width::Pair,
+        _ => return s,
+    };
+    put_run(recipe, width, out, s)
 }
 
 // Writes the records of a recipe, from a state on, and marks them.
@@ -721,6 +745,35 @@ fn put_records(
     s
 }
 
+// The same with the marks of a table that is longer than others; most: how many records it may have. LLVM does not inline a function that
+// calls itself, so that no other table pays for this room: once more from the end, where nothing is left to write, if a byte of the head
+// that the compiler does not know is 255.
+fn put_long(
+    recipe: &[u8],
+    table: Table,
+    out: &mut [u8],
+    most: usize,
+    first: State,
+    again: u8,
+) -> State
+    requires { ⌜ Ready (now recipe) (meant table) first (now out) [] ⌝ }
+    ensures { λ r. ⌜ (length (now (recipe .entry)) ≤ r .at) × Ends (now (recipe .entry)) (meant table) first (now (out .entry)) [] r (now (out .exit)) ⌝ }
+{
+    let mut marks = [0u64; marks::MOST];
+    let last = put_records(
+        recipe,
+        table,
+        out,
+        &mut marks,
+        marks::spread(most, marks::MOST),
+        first,
+    );
+    if 0 < again {
+        return put_long(recipe, table, out, most, last, again - 1);
+    }
+    last
+}
+
 // The same with marks of its own: as many as a table of so many bytes asks for where it has references, in a PPTT.
 fn put_all(recipe: &[u8], table: Table, out: &mut [u8], len: usize, first: State) -> State
     requires { ⌜ Ready (now recipe) (meant table) first (now out) [] ⌝ }
@@ -731,6 +784,10 @@ fn put_all(recipe: &[u8], table: Table, out: &mut [u8], len: usize, first: State
         if most < marks::FEW {
             let mut few = [0u64; marks::FEW];
             return put_records(recipe, table, out, &mut few, 0, first);
+        }
+        if marks::LONG < len {
+            let again = field::get_u8(recipe, recipe::HEAD_LEN - 1) / 255;
+            return put_long(recipe, table, out, most, first, again);
         }
         let mut many = [0u64; marks::MANY];
         return put_records(

@@ -244,7 +244,7 @@ fn number(n: usize) {
 fn trip(table: &[u8]) {
     let mut recipe = [0u8; ROOM];
     let mut again = [0u8; ROOM];
-    shows::show(table);
+    shows::show(table, false);
     io::write_all(STDOUT_FILENO, b"sum");
     number(Checksum::default().append(table).raw_value() as usize);
     io::write_all(STDOUT_FILENO, b"\n");

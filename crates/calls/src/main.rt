@@ -115,11 +115,33 @@ fn serve(line: &mut [u8], given: &mut [u8], lent: &mut [u8], text: &mut [u8]) {
     }
 }
 
-// A line of text has room for the longest answer too.
-fn main() {
+// Rooms as every stack has them. A line of text has room for the longest answer too.
+fn serve_small() {
     let mut line = prints::line();
     let mut given = prints::room();
     let mut lent = prints::room();
     let mut text = prints::line();
     serve(&mut line, &mut given, &mut lent, &mut text);
+}
+
+// Large rooms, apart from main's (see prints::never).
+fn serve_large(depth: u64) {
+    let mut line = prints::large_line();
+    let mut given = prints::large_data();
+    let mut lent = prints::large_data();
+    let mut text = prints::large_line();
+    serve(&mut line, &mut given, &mut lent, &mut text);
+    if prints::never() {
+        if 0 < depth {
+            serve_large(depth - 1);
+        }
+    }
+}
+
+fn main() {
+    if prints::has_stack() {
+        serve_large(1);
+    } else {
+        serve_small();
+    }
 }

@@ -5,7 +5,7 @@ use mathlib.Core.Bool.{Bool}
 use mathlib.Core.Option.{Option, none, some}
 use Rattle.format.specs.Bytes.{pick}
 use Rattle.format.specs.Layout.{Item, wide}
-use Rattle.format.specs.Form.{Form, processor, cache, memory, acpi, pci, rintc, oldRintc, domain, matrix, side, bridge, window, xor, ranges}
+use Rattle.format.specs.Form.{Form, processor, cache, memory, acpi, pci, rintc, oldRintc, domain, matrix, side, bridge, window, xor, narrowest, ranges}
 use Rattle.format.specs.Node.{Node}
 use Rattle.format.specs.Kind.{Kind, Processor, Cache, Memory, Acpi, Pci, Rintc, Domain, Matrix, Side, Bridge, Window, Xor, body}
 
@@ -19,7 +19,7 @@ maker pci = some Pci
 maker rintc = some Rintc
 maker oldRintc = none
 maker domain = some Domain
-maker (matrix i t) = some Matrix
+maker (matrix i t) = some (Matrix (narrowest i t))
 maker (side n) = some Side
 maker (bridge n) = some Bridge
 maker (window n) = some Window

@@ -50,6 +50,31 @@ size (bridge n) = 32
 size (window n) = 36 + 4 * n
 size (xor n) = 8 + 8 * n
 
+-- ---- how a recipe writes a matrix
+
+-- its counts and indices are written in a byte, or in two
+pub data Width : Type 0 where
+  byte pair : Width
+
+-- how many bytes that are
+abbrev pub octets : Width → ℕ
+octets byte = 1
+octets pair = 2
+
+-- a matrix has no more initiators than this, and no more targets
+abbrev pub most : ℕ
+most = 4096
+
+-- both counts are up to n
+abbrev pub upTo : ℕ → ℕ → ℕ → Bool
+upTo n i t = both (leb i n) (leb t n)
+
+-- the width that the normal form takes: a byte where both counts are up to 255
+abbrev pub narrowest : ℕ → ℕ → Width
+narrowest i t = pick (upTo 255 i t) byte pair
+
+-- ---- layouts
+
 -- PPTT and SRAT begin with type and length in a byte each
 abbrev pub short : Form → List Item → List Item
 short f is = fix 1 (typeOf f) ∷ fix 1 (size f) ∷ is
@@ -137,7 +162,7 @@ sideAttributes v = all (leb (bits v 0 4) 3 ∷ leb (bits v 4 4) 3 ∷ leb (bits 
 abbrev pub any : Bool
 any = true
 
--- a test for each field, in order; fields behind the last test may hold any number
+-- a test for each field, in order, of a matrix for its counts too, where a body has them; fields behind the last test may hold any number
 unfoldable pub ranges : Form → List ℕ → List Bool
 ranges (processor n) vs = []
 ranges cache vs =
@@ -150,7 +175,7 @@ ranges pci vs = any ∷ any ∷ any ∷ leb (at vs 3) 31 ∷ leb (at vs 4) 7 ∷
 ranges rintc vs = any ∷ any ∷ leb (at vs 2) 1 ∷ []
 ranges oldRintc vs = any ∷ leb (at vs 1) 1 ∷ []
 ranges domain vs = []
-ranges (matrix i t) vs = matrixFlags (at vs 0) ∷ leb (at vs 1) 5 ∷ leb (at vs 2) 11 ∷ []
+ranges (matrix i t) vs = matrixFlags (at vs 0) ∷ leb (at vs 1) 5 ∷ leb (at vs 2) 11 ∷ any ∷ leb i most ∷ leb t most ∷ []
 ranges (side n) vs = any ∷ any ∷ sideAttributes (at vs 2) ∷ []
 ranges (bridge n) vs = any ∷ leb (at vs 1) 1 ∷ []
 ranges (window n) vs = any ∷ any ∷ ltb 0 (ways (at vs 2)) ∷ leb (at vs 3) 1 ∷ leb (at vs 4) 6 ∷ leb (at vs 5) 31 ∷ []

@@ -6,7 +6,7 @@ use lib.Dec.{eqb}
 use Rattle.format.specs.Bytes.{pick, ofGiven, part}
 use Rattle.format.specs.Layout.{lay}
 use Rattle.format.specs.Table.{code, Head}
-use Rattle.format.specs.Form.{Form, processor, cache, memory, acpi, pci, rintc, oldRintc, domain, matrix, side, bridge, window, xor}
+use Rattle.format.specs.Form.{Form, processor, cache, memory, acpi, pci, rintc, oldRintc, domain, matrix, side, bridge, window, xor, Width, narrowest}
 use Rattle.format.specs.Node.{Node}
 use Rattle.format.specs.Kind.{Kind, Processor, Resource, Cache, Memory, Acpi, Pci, Rintc, Domain, Matrix, Initiator, Target, Cell, Side, Handle, Bridge, Window, WindowTarget, Xor, Map, kindNumber, body}
 use Rattle.format.specs.Recipe.{Meaning, meaning}
@@ -25,12 +25,16 @@ unfoldable pub eachSet : (ℕ → ℕ → List ℕ) → ℕ → ℕ → List ℕ
 eachSet setting unset j [] = []
 eachSet setting unset j (v ∷ vs) = pick (eqb v unset) [] (setting j v) ++ eachSet setting unset (suc j) vs
 
--- initiators, targets, then cells row by row
-unfoldable pub settings : ℕ → ℕ → List ℕ → List ℕ
-settings i t vs =
-    eachSet (λ j v. call Initiator (j ∷ v ∷ [])) 0 0 (part vs 0 i)
-    ++ (eachSet (λ j v. call Target (j ∷ v ∷ [])) 0 0 (part vs i t)
-    ++ eachSet (λ e v. call Cell (e / t ∷ e % t ∷ v ∷ [])) 65535 0 (drop (i + t) vs))
+-- initiators, targets, then cells row by row; w: how wide indices are
+unfoldable pub settings : Width → ℕ → ℕ → List ℕ → List ℕ
+settings w i t vs =
+    eachSet (λ j v. call (Initiator w) (j ∷ v ∷ [])) 0 0 (part vs 0 i)
+    ++ (eachSet (λ j v. call (Target w) (j ∷ v ∷ [])) 0 0 (part vs i t)
+    ++ eachSet (λ e v. call (Cell w) (e / t ∷ e % t ∷ v ∷ [])) 65535 0 (drop (i + t) vs))
+
+-- a matrix and its settings
+unfoldable pub matrixCalls : Width → ℕ → ℕ → List ℕ → List ℕ
+matrixCalls w i t vs = call (Matrix w) (take 4 vs ++ (i ∷ t ∷ [])) ++ settings w i t (drop 4 vs)
 
 -- the records of one node; a retired one has none
 unfoldable pub calls : Form → List ℕ → List ℕ
@@ -42,7 +46,7 @@ calls pci vs = call Pci vs
 calls rintc vs = call Rintc vs
 calls oldRintc vs = []
 calls domain vs = call Domain vs
-calls (matrix i t) vs = call Matrix (take 4 vs ++ (i ∷ t ∷ [])) ++ settings i t (drop 4 vs)
+calls (matrix i t) vs = matrixCalls (narrowest i t) i t vs
 calls (side n) vs = call Side (take 3 vs) ++ each Handle (drop 3 vs)
 calls (bridge n) vs = call Bridge vs
 calls (window n) vs = call Window (take 7 vs) ++ each WindowTarget (drop 7 vs)

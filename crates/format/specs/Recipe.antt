@@ -8,9 +8,9 @@ use lib.Dec.{eqb, leb, ltb}
 use Rattle.format.specs.Bytes.{pick, both, all, firstOf, find, Answer, refused, given, andThen, orRefused, unless, at, part}
 use Rattle.format.specs.Layout.{width, fields, refsGood}
 use Rattle.format.specs.Table.{Table, tables, code, front, limit, Head, headOf}
-use Rattle.format.specs.Form.{Form, processor, cache, memory, acpi, pci, rintc, oldRintc, domain, matrix, side, bridge, window, xor, registers, ways, ranges}
+use Rattle.format.specs.Form.{Form, processor, cache, memory, acpi, pci, rintc, oldRintc, domain, matrix, side, bridge, window, xor, Width, byte, registers, ways, ranges}
 use Rattle.format.specs.Node.{Node, node, sizes, starts, isOrdinal, atOrdinal}
-use Rattle.format.specs.Kind.{Kind, Processor, Resource, Cache, Memory, Acpi, Pci, Rintc, Domain, Matrix, Initiator, Target, Cell, Side, Handle, Bridge, Window, WindowTarget, Xor, Map, kindNumber, kindOf, noKind, isKind, body}
+use Rattle.format.specs.Kind.{Kind, Processor, Resource, Cache, Memory, Acpi, Pci, Rintc, Domain, Matrix, Initiator, Target, Cell, Side, Handle, Bridge, Window, WindowTarget, Xor, Map, kindNumber, kindOf, noKind, isKind, body, partIn, suits, widthBehind}
 use Rattle.format.specs.Field.{badIn}
 
 -- ---- cutting
@@ -113,13 +113,13 @@ step Acpi vs ns = makes (ranges acpi vs) (node acpi vs) ns
 step Pci vs ns = makes (ranges pci vs) (node pci vs) ns
 step Rintc vs ns = makes (ranges rintc vs) (node rintc vs) ns
 step Domain vs ns = makes [] (node domain vs) ns
-step Matrix vs ns =
+step (Matrix w) vs ns =
     let i : ℕ = at vs 4 in
     let t : ℕ = at vs 5 in
     makes (ranges (matrix i t) vs) (node (matrix i t) (unset i t vs)) ns
-step Initiator vs ns = setting (λ i t. ltb (at vs 0) i ∷ []) (λ i t. 4 + at vs 0) (at vs 1) (newest ns)
-step Target vs ns = setting (λ i t. ltb (at vs 0) t ∷ []) (λ i t. 4 + i + at vs 0) (at vs 1) (newest ns)
-step Cell vs ns = setting (λ i t. ltb (at vs 0) i ∷ ltb (at vs 1) t ∷ []) (λ i t. 4 + i + t + at vs 0 * t + at vs 1) (at vs 2) (newest ns)
+step (Initiator w) vs ns = setting (λ i t. ltb (at vs 0) i ∷ []) (λ i t. 4 + at vs 0) (at vs 1) (newest ns)
+step (Target w) vs ns = setting (λ i t. ltb (at vs 0) t ∷ []) (λ i t. 4 + i + at vs 0) (at vs 1) (newest ns)
+step (Cell w) vs ns = setting (λ i t. ltb (at vs 0) i ∷ ltb (at vs 1) t ∷ []) (λ i t. 4 + i + t + at vs 0 * t + at vs 1) (at vs 2) (newest ns)
 step Side vs ns = makes (ranges (side 0) vs) (node (side 0) vs) ns
 step Handle vs ns = joined Handle vs (newest ns)
 step Bridge vs ns =
@@ -136,11 +136,11 @@ step Map vs ns = joined Map vs (newest ns)
 abbrev pub added : Kind → List ℕ → List Node → List Node
 added k vs ns = step k vs ns .nodes
 
--- what is refused of a record, in the order of the list
-unfoldable pub fault : Table → List Node → Kind → List ℕ → ℕ
-fault t ns k vs =
+-- what is refused of a record, in the order of the list; w: how wide the newest matrix's counts are written
+unfoldable pub fault : Table → Width → List Node → Kind → List ℕ → ℕ
+fault t w ns k vs =
     let s : Step = step k vs ns in
-    firstOf ((not (s .placed), 4)
+    firstOf ((not (both (s .placed) (suits (partIn k) w)), 4)
     ∷ (not (all (s .ranges)), 5)
     ∷ (not (refsGood (isOrdinal (length (s .earlier))) (body k) vs), 6)
     ∷ (not (refsGood (atOrdinal (starts t (s .earlier))) (body k) vs), 10)
@@ -172,15 +172,15 @@ lacking (aList j least most n f us ns) o = pick (both (ltb n least) (not (isKind
 lacking (aMatrix i t us ns) o = 0
 lacking other o = 0
 
--- q: the place of the newest node's record
-unfoldable pub run : Head → ℕ → List Node → Calls → Answer Meaning
-run h q ns done = unless (lacking (newest ns) none) q (given (means h ns))
-run h q ns (badKind n p) = unless (lacking (newest ns) none) q (refused n p)
-run h q ns (cutOff p k) = unless (lacking (newest ns) (some k)) q (refused 3 p)
-run h q ns (called p k vs rest) =
-    let n : ℕ = fault (h .table) ns k vs in
+-- q: the place of the newest node's record; w: how wide the newest matrix's counts are written
+unfoldable pub run : Head → ℕ → Width → List Node → Calls → Answer Meaning
+run h q w ns done = unless (lacking (newest ns) none) q (given (means h ns))
+run h q w ns (badKind n p) = unless (lacking (newest ns) none) q (refused n p)
+run h q w ns (cutOff p k) = unless (lacking (newest ns) (some k)) q (refused 3 p)
+run h q w ns (called p k vs rest) =
+    let n : ℕ = fault (h .table) w ns k vs in
     unless (lacking (newest ns) (some k)) q
-    (unless n (p + faultAt n k (step k vs ns .ranges)) (run h (since ns (added k vs ns) p q) (added k vs ns) rest))
+    (unless n (p + faultAt n k (step k vs ns .ranges)) (run h (since ns (added k vs ns) p q) (widthBehind (partIn k) w) (added k vs ns) rest))
 
 -- the table of a head's code
 abbrev pub tableOf : ℕ → Option Table
@@ -194,4 +194,4 @@ headed r =
 
 -- what a recipe means, or refusal 1 to 8, 10 to 12
 unfoldable pub meaning : List ℕ → Answer Meaning
-meaning r = andThen (headed r) (λ h. run h 0 [] (cut (h .table) 0 28 (drop 28 r)))
+meaning r = andThen (headed r) (λ h. run h 0 byte [] (cut (h .table) 0 28 (drop 28 r)))

@@ -1,17 +1,18 @@
 -- The layout rows: which row a record of a table matches, and which a reader knows.
 use Prim.Native.Nat.{ℕ, _-_, _/_, _%_, _^_}
 use mathlib.Core.List.{List, [], _∷_}
-use mathlib.Core.Bool.{Bool, false}
+use mathlib.Core.Bool.{Bool, false, not}
 use mathlib.Core.Option.{Option, none, some}
 use lib.ListN.{length}
 use lib.Dec.{eqb, leb}
-use Rattle.format.specs.Bytes.{pick, all, find, at, value, part}
+use Rattle.format.specs.Bytes.{pick, both, all, find, at, value, part}
 use Rattle.format.specs.Table.{Table, pptt, srat, hmat, cedt, revision}
-use Rattle.format.specs.Form.{Form, processor, cache, memory, acpi, pci, rintc, oldRintc, domain, matrix, side, bridge, window, xor, registers, ways}
+use Rattle.format.specs.Form.{Form, processor, cache, memory, acpi, pci, rintc, oldRintc, domain, matrix, side, bridge, window, xor, Width, byte, pair, most, upTo, registers, ways}
 
 -- the rows of the table of layouts
 pub data Row : Type 0 where
-  processors caches memories initiators oldRintcs domains matrices sides bridges windows xors rintcs : Row
+  processors caches memories initiators oldRintcs domains sides bridges windows xors rintcs : Row
+  matrices : Width → Row  -- with counts that a recipe writes in this width
 
 -- their numbers
 abbrev pub rowNumber : Row → ℕ
@@ -21,18 +22,19 @@ rowNumber memories = 2
 rowNumber initiators = 3
 rowNumber oldRintcs = 4
 rowNumber domains = 5
-rowNumber matrices = 6
+rowNumber (matrices byte) = 6
 rowNumber sides = 7
 rowNumber bridges = 8
 rowNumber windows = 9
 rowNumber xors = 10
 rowNumber rintcs = 11
+rowNumber (matrices pair) = 12
 
 -- the rows of each table
 abbrev pub rows : Table → List Row
 rows pptt = processors ∷ caches ∷ []
 rows srat = memories ∷ initiators ∷ oldRintcs ∷ rintcs ∷ []
-rows hmat = domains ∷ matrices ∷ sides ∷ []
+rows hmat = domains ∷ matrices byte ∷ sides ∷ matrices pair ∷ []
 rows cedt = bridges ∷ windows ∷ xors ∷ []
 
 -- the table whose signature the row names
@@ -43,7 +45,7 @@ home memories = srat
 home initiators = srat
 home oldRintcs = srat
 home domains = hmat
-home matrices = hmat
+home (matrices w) = hmat
 home sides = hmat
 home bridges = cedt
 home windows = cedt
@@ -58,12 +60,17 @@ rowType memories = 1
 rowType initiators = 5
 rowType oldRintcs = 7
 rowType domains = 0
-rowType matrices = 1
+rowType (matrices w) = 1
 rowType sides = 2
 rowType bridges = 0
 rowType windows = 1
 rowType xors = 2
 rowType rintcs = 7
+
+-- the counts are those of the row: up to 255, or one above that and both up to the most
+abbrev pub counted : Width → ℕ → ℕ → Bool
+counted byte i t = upTo 255 i t
+counted pair i t = both (not (upTo 255 i t)) (upTo most i t)
 
 -- the Length column, of a record's bytes
 unfoldable pub column : Row → List ℕ → Bool
@@ -73,7 +80,7 @@ column memories bs = eqb (length bs) 40
 column initiators bs = eqb (length bs) 32
 column oldRintcs bs = eqb (length bs) 16
 column domains bs = eqb (length bs) 40
-column matrices bs = all (leb 32 (length bs) ∷ leb (value (part bs 12 4)) 255 ∷ leb (value (part bs 16 4)) 255 ∷ [])
+column (matrices w) bs = both (leb 32 (length bs)) (counted w (value (part bs 12 4)) (value (part bs 16 4)))
 column sides bs = leb 32 (length bs)
 column bridges bs = eqb (length bs) 32
 column windows bs = leb 40 (length bs)
@@ -96,7 +103,7 @@ formIn memories bs = memory
 formIn initiators bs = pick (eqb (at bs 3) 0) acpi pci
 formIn oldRintcs bs = oldRintc
 formIn domains bs = domain
-formIn matrices bs = matrix (value (part bs 12 4)) (value (part bs 16 4))
+formIn (matrices w) bs = matrix (value (part bs 12 4)) (value (part bs 16 4))
 formIn sides bs = side (value (part bs 30 2))
 formIn bridges bs = bridge (registers (value (part bs 8 4)))
 formIn windows bs = window (ways (value (part bs 24 1)))

@@ -55,7 +55,7 @@ front cedt = 36
 
 -- a table is never longer than this
 abbrev pub limit : ℕ
-limit = 1048576
+limit = 67108864
 
 -- what a head says: the table, its revision, and the 26 bytes of its other fields
 pub record Head : Type 0 where

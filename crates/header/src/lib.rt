@@ -14,7 +14,7 @@ ghost use Rattle.header.specs.declared.TableHeader.{TableHeader};
 ghost use Rattle.header.specs.Header.{meant, codedAs, identity, headerBytes, Sized, headerOf, headFrom, withChecksum};
 
 // No table is longer.
-pub const LIMIT: usize = 1048576;
+pub const LIMIT: usize = 67108864;
 
 pub fn limit() -> usize
     ensures { λ r. ⌜ r ≡ limit ⌝ }

@@ -1,40 +1,79 @@
--- Bodies of a recipe: a setting whose kind is any byte, and the indices of a cell in a window.
+-- Bodies of a recipe, in either width: fields at their places, records as numbers at their widths, and the indices of a cell in a window.
 use mathlib.Core.Path.{_≡_, ap, _∙_}
-use Prim.Native.Nat.{ℕ, _+_, _<_}
+use Prim.Native.Nat.{ℕ, _+_, _≤_, _<_}
 use mathlib.Core.List.{List, [], _∷_}
 use native.Mathlib.Omega.{arith}
 use native.Mathlib.Nat.{mod-eq-of-lt}
 use lib.ListN.{take, drop}
 use lib.Dec.{eqb, ltb}
 use Rattle.format.specs.Bytes.{both, at, le, value, join, part}
-use Rattle.format.specs.Layout.{asIs, fieldsWith}
-use Rattle.format.specs.Kind.{Initiator, Cell, body}
+use Rattle.format.specs.Layout.{asIs, width, fieldsWith}
+use Rattle.format.specs.Form.{Width, byte, pair, octets}
+use Rattle.format.specs.Kind.{Matrix, Initiator, Cell, kindNumber, body}
+use Rattle.format.specs.Normal.{call}
 use Rattle.format.specs.Field.{badIn}
-use Rattle.laws.proofs.Bytes.{part-window, value-byte}
+use Rattle.laws.proofs.Bytes.{part-window}
 use Rattle.laws.proofs.Joins.{lay-join}
-use Rattle.laws.proofs.Fields.{all-bad, fields-now}
+use Rattle.laws.proofs.Fields.{all-bad, fields-now, call-join}
+use Rattle.hmat.specs.declared.SystemLocality.{SystemLocality}
 use Rattle.hmat.specs.declared.Value.{Value}
 use Rattle.hmat.specs.declared.Cell as declared
-use Rattle.hmat.specs.Settings.{valueFields, valueCall, cellFields}
+use Rattle.hmat.specs.Hmat.{matrixCall}
+use Rattle.hmat.specs.Settings.{valueFields, valueCall, cellFields, inCounts}
 
--- a setting as numbers at their widths
-pub value-join : (kind : ℕ) (v : Value) → kind < 256 → valueCall kind v ≡ join (1 ∷ 1 ∷ 4 ∷ []) (kind ∷ v .idx ∷ v .value ∷ [])
-unfolding join le body
-value-join kind v h = rw (lay-join asIs (body Initiator) (valueFields v), mod-eq-of-lt h)
+pub octets-small : (w : Width) → octets w ≤ 2
+octets-small byte = omega arith
+octets-small pair = omega arith
 
--- ---- a window: n bytes from a place on
+pub cell-small : (w : Width) → width (body (Cell w)) ≤ 6
+unfolding width body
+cell-small byte = omega arith
+cell-small pair = omega arith
 
-window-byte : (xs : List ℕ) (p n i : ℕ) → i < n → value (part (take n (drop p xs)) i 1) ≡ at xs (p + i)
-window-byte xs p n i h = rw (part-window xs p n i 1 (omega arith), value-byte xs (p + i))
+-- ---- the fields of a setting, at their places
 
--- the indices of the cell behind the kind byte at p
-pub window-cell : (xs : List ℕ) (p n i t b : ℕ) (c : declared.Cell) → cellFields c ≡ fieldsWith asIs (body Cell) (take n (drop (p + 1) xs))
-    → b ≡ badIn Cell (ltb (c .«initiator_idx») i ∷ ltb (c .«target_idx») t ∷ []) → 1 < n → eqb b 0 ≡ both (ltb (at xs (p + 1)) i) (ltb (at xs (p + 2)) t)
+pub value-fields : (w : Width) (bs : List ℕ) → fieldsWith asIs (body (Initiator w)) bs ≡ value (part bs 0 (octets w)) ∷ value (part bs (octets w) 4) ∷ []
 unfolding body
-window-cell xs p n i t b c e f h =
-    let g = e ∙ fields-now Cell (take n (drop (p + 1) xs)) in
-    let first : c .«initiator_idx» ≡ at xs (p + 1 + 0) = ap (λ (vs : List ℕ). at vs 0) g ∙ window-byte xs (p + 1) n 0 (omega arith) in
-    let second : c .«target_idx» ≡ at xs (p + 1 + 1) = ap (λ (vs : List ℕ). at vs 1) g ∙ window-byte xs (p + 1) n 1 (omega arith) in
+value-fields byte bs = fields-now (Initiator byte) bs
+value-fields pair bs = fields-now (Initiator pair) bs
+
+pub cell-fields : (w : Width) (bs : List ℕ)
+    → fieldsWith asIs (body (Cell w)) bs ≡ value (part bs 0 (octets w)) ∷ value (part bs (octets w) (octets w)) ∷ value (part bs (octets w + octets w) 2) ∷ []
+unfolding body
+cell-fields byte bs = fields-now (Cell byte) bs
+cell-fields pair bs = fields-now (Cell pair) bs
+
+-- ---- records as numbers at their widths
+
+pub matrix-join : (w : Width) (m : SystemLocality) (n : ℕ) → n ≡ kindNumber (Matrix w)
+    → call (Matrix w) (matrixCall m)
+    ≡ join (1 ∷ 1 ∷ 1 ∷ 1 ∷ 8 ∷ octets w ∷ octets w ∷ []) (n ∷ m .flags ∷ m .«data_type» ∷ m .«min_transfer_size» ∷ m .«entry_base_unit» ∷ m .initiators ∷ m .targets ∷ [])
+unfolding body
+matrix-join w m n e = rw (e, call-join (Matrix w) (matrixCall m))
+
+pub cell-join : (w : Width) (c : declared.Cell) (n : ℕ) → n ≡ kindNumber (Cell w)
+    → call (Cell w) (cellFields c) ≡ join (1 ∷ octets w ∷ octets w ∷ 2 ∷ []) (n ∷ c .«initiator_idx» ∷ c .«target_idx» ∷ c .value ∷ [])
+unfolding body
+cell-join w c n e = rw (e, call-join (Cell w) (cellFields c))
+
+-- whose kind is any byte
+pub value-join : (w : Width) (kind : ℕ) (v : Value) → kind < 256 → valueCall w kind v ≡ join (1 ∷ octets w ∷ 4 ∷ []) (kind ∷ v .idx ∷ v .value ∷ [])
+unfolding join le body
+value-join w kind v h = rw (lay-join asIs (body (Initiator w)) (valueFields v), mod-eq-of-lt h)
+
+-- ---- the indices of a cell
+
+pub cell-inside : (w : Width) (bs : List ℕ) (i t b : ℕ) (c : declared.Cell) → cellFields c ≡ fieldsWith asIs (body (Cell w)) bs
+    → b ≡ badIn (Cell w) (ltb (c .«initiator_idx») i ∷ ltb (c .«target_idx») t ∷ []) → eqb b 0 ≡ inCounts w bs i t
+cell-inside w bs i t b c e f =
+    let g = e ∙ cell-fields w bs in
+    let first : c .«initiator_idx» ≡ value (part bs 0 (octets w)) = ap (λ (vs : List ℕ). at vs 0) g in
+    let second : c .«target_idx» ≡ value (part bs (octets w) (octets w)) = ap (λ (vs : List ℕ). at vs 1) g in
+    rw (f, ← all-bad 1 (body (Cell w)) (ltb (c .«initiator_idx») i ∷ ltb (c .«target_idx») t ∷ []) (omega arith), first, second)
+
+-- of the body behind the kind byte at p, in a window of n bytes
+pub window-inside : (w : Width) (xs : List ℕ) (p n i t : ℕ) → octets w + octets w ≤ n
+    → inCounts w (take n (drop (p + 1) xs)) i t ≡ both (ltb (value (part xs (p + 1) (octets w))) i) (ltb (value (part xs (p + 1 + octets w) (octets w))) t)
+window-inside w xs p n i t h =
     let k : p + 1 + 0 ≡ p + 1 = omega arith in
-    let l : p + 1 + 1 ≡ p + 2 = omega arith in
-    rw (f, ← all-bad 1 (body Cell) (ltb (c .«initiator_idx») i ∷ ltb (c .«target_idx») t ∷ []) (omega arith), first, second, k, l)
+    rw (part-window xs (p + 1) n 0 (octets w) (omega arith), part-window xs (p + 1) n (octets w) (octets w) h, k)

@@ -8,7 +8,7 @@ use lib.Dec.{eqb}
 use borrow.Author.Tests.{eq-eqb, ne-eqb}
 use Rattle.format.specs.Bytes.{all, value, part}
 use Rattle.format.specs.Layout.{fld, asIs, fixedOk}
-use Rattle.format.specs.Form.{layout, size, ranges}
+use Rattle.format.specs.Form.{Width, layout, size, ranges}
 use Rattle.format.specs.Node.{nodeAt}
 use Rattle.format.specs.Row.{matrices, sides, formIn}
 use Rattle.format.specs.Field.{badField}
@@ -28,11 +28,11 @@ equals-cut {x} {y} {n} s m e f l h = rw e at (eq-eqb x s (omega arith))
 
 -- ---- zeros, fixed values and length
 
-pub matrix-fixed : (bs : List ℕ)
-    → fixedOk (layout (formIn matrices bs)) bs
-    ≡ all (eqb (value (part bs 0 2)) 1 ∷ eqb (value (part bs 2 2)) 0 ∷ eqb (value (part bs 4 4)) (size (formIn matrices bs)) ∷ eqb (value (part bs 11 1)) 0 ∷ eqb (value (part bs 20 4)) 0 ∷ [])
+pub matrix-fixed : (w : Width) (bs : List ℕ)
+    → fixedOk (layout (formIn (matrices w) bs)) bs
+    ≡ all (eqb (value (part bs 0 2)) 1 ∷ eqb (value (part bs 2 2)) 0 ∷ eqb (value (part bs 4 4)) (size (formIn (matrices w) bs)) ∷ eqb (value (part bs 11 1)) 0 ∷ eqb (value (part bs 20 4)) 0 ∷ [])
 unfolding formIn layout
-matrix-fixed bs =
+matrix-fixed w bs =
     rw (fixed-now, eq-eqb (value (part bs 12 4)) _ refl, eq-eqb (value (part bs 16 4)) _ refl, fixed-append, fixed-list (fld 4) (λ x. refl), fixed-list (fld 2) (λ x. refl), both-right)
 
 pub side-fixed : (bs : List ℕ)
@@ -43,9 +43,9 @@ side-fixed bs = rw (fixed-now, eq-eqb (value (part bs 30 2)) _ refl, fixed-list 
 
 -- ---- ranges: no field behind the first ones has one
 
-pub matrix-bad : (bs : List ℕ) → badField (nodeAt asIs (formIn matrices bs) bs) ≡ badField (trimmed 4 (nodeAt asIs (formIn matrices bs) bs))
+pub matrix-bad : (w : Width) (bs : List ℕ) → badField (nodeAt asIs (formIn (matrices w) bs) bs) ≡ badField (trimmed 4 (nodeAt asIs (formIn (matrices w) bs) bs))
 unfolding badField ranges layout formIn
-matrix-bad bs = rw node-at
+matrix-bad w bs = rw node-at
 
 pub side-bad : (bs : List ℕ) → badField (nodeAt asIs (formIn sides bs) bs) ≡ badField (trimmed 3 (nodeAt asIs (formIn sides bs) bs))
 unfolding badField ranges layout formIn

@@ -1,14 +1,15 @@
 -- Attributes and flags: what the constructors and the setters make lies at its bits and within the ranges of the format.
 use mathlib.Core.Path.{_≡_, refl}
 use Prim.Native.Nat.{ℕ, _+_, _*_, _/_, _%_, _^_, _≤_, _<_}
+use mathlib.Core.List.{[], _∷_}
 use mathlib.Core.Bool.{true}
 use native.Mathlib.Omega.{arith}
 use native.Mathlib.Nat.{mod-eq-of-lt, add-comm}
 use lib.Bits.{bitOr, or-shifted-r, or-shr, or-mod, or-lt}
 use lib.Dec.{eqb, leb, ltb}
 use borrow.Author.Tests.{le-leb, lt-ltb, ltb-true, eqb-true}
-use Rattle.format.specs.Bytes.{both, all, bits}
-use Rattle.format.specs.Form.{side, matrixFlags, sideAttributes, ranges}
+use Rattle.format.specs.Bytes.{all, bits}
+use Rattle.format.specs.Form.{side, most, matrixFlags, sideAttributes, any, ranges}
 use Rattle.laws.proofs.Lays.{both-true}
 use Rattle.hmat.specs.declared.SystemLocality.{SystemLocality}
 use Rattle.hmat.specs.declared.DataType.{DataType}
@@ -70,14 +71,15 @@ transfer-ruled transfer.Size64k = refl
 abbrev pub Ruled : SystemLocality → Type 0
 Ruled m = all (ranges (matrixForm m) (matrixFields m)) ≡ true
 
-pub new-ruled : (l : LocalityType) (d : DataType) (s : MinTransferSize) (u i t : ℕ) → Ruled (matrixOf l d s u i t)
+-- the counts alone are as they are given
+pub new-ruled : (l : LocalityType) (d : DataType) (s : MinTransferSize) (u i t : ℕ) → i ≤ most → t ≤ most → Ruled (matrixOf l d s u i t)
 unfolding ranges
-new-ruled l d s u i t = rw (locality-ruled l, data-type-ruled d, transfer-ruled s)
+new-ruled l d s u i t h k = rw (locality-ruled l, data-type-ruled d, transfer-ruled s, le-leb i most h, le-leb t most k)
 
 with-ruled : (m : SystemLocality) (k : ℕ) → matrixFlags (2 ^ k) ≡ true → Ruled m → Ruled (matrixWith k m)
 unfolding ranges
 with-ruled m k b h =
-    let (f, r) = both-true (matrixFlags (m .flags)) (both (leb (m .«data_type») 5) (leb (m .«min_transfer_size») 11)) h in
+    let (f, r) = both-true (matrixFlags (m .flags)) (all (leb (m .«data_type») 5 ∷ leb (m .«min_transfer_size») 11 ∷ any ∷ leb (m .initiators) most ∷ leb (m .targets) most ∷ [])) h in
     rw (flags-or (m .flags) (2 ^ k) f b, r)
 
 pub minimum-ruled : (m : SystemLocality) → Ruled m → Ruled (matrixWith 4 m)

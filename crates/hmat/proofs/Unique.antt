@@ -3,16 +3,21 @@ use mathlib.Core.Path.{_≡_, refl}
 use Prim.Native.Nat.{ℕ}
 use mathlib.Core.List.{List}
 use Rattle.format.specs.Bytes.{at, part}
+use Rattle.format.specs.Form.{byte}
+use Rattle.format.specs.Form as format
 use Rattle.format.specs.Node.{Node}
 use Rattle.format.specs.Read.{shown}
 use Rattle.laws.specs.Unique.{Fixes}
 use Rattle.laws.proofs.Sole.{sole, sole-meant, sole-pair}
 use Rattle.hmat.specs.declared.MemoryProximityDomain.{MemoryProximityDomain}
+use Rattle.hmat.specs.declared.Width.{Width}
+use Rattle.hmat.specs.declared.Width.the-variants.{Byte, Pair}
 use Rattle.hmat.specs.declared.SystemLocality.{SystemLocality}
 use Rattle.hmat.specs.declared.Value.{Value}
 use Rattle.hmat.specs.declared.Cell.{Cell}
 use Rattle.hmat.specs.declared.MemorySideCache.{MemorySideCache}
 use Rattle.hmat.specs.declared.SmbiosHandle.{SmbiosHandle}
+use Rattle.hmat.specs.Widths.{meantWidth, widthNamed}
 use Rattle.hmat.specs.Hmat.{domainOf, domainNode, matrixHead, matrixCall, sideHead}
 use Rattle.hmat.specs.Settings.{valueFields, cellFields, handleFields}
 use Rattle.hmat.proofs.MemoryProximityDomain.new.Reads as MemoryProximityDomain-new
@@ -23,6 +28,7 @@ use Rattle.hmat.proofs.MemoryProximityDomain.is_fixed.Reads as MemoryPr
 use Rattle.hmat.proofs.MemoryProximityDomain.from_body.Reads as MemoryProximityDomain-from-body
 use Rattle.hmat.proofs.MemoryProximityDomain.put_body.Reads as MemoryProximityDomain-put-body
 use Rattle.hmat.proofs.MemoryProximityDomain.put_fields.Reads as MemoryProximityDomain-put-fields
+use Rattle.hmat.proofs.Width.is.Reads as Width-is
 use Rattle.hmat.proofs.DataType.number.Reads as DataType-number
 use Rattle.hmat.proofs.MinTransferSize.number.Reads as MinTransferSize-number
 use Rattle.hmat.proofs.LocalityType.number.Reads as LocalityType-number
@@ -43,15 +49,24 @@ use Rattle.hmat.proofs.SystemLocality.initiator_value.Reads as SystemLo
 use Rattle.hmat.proofs.SystemLocality.target_value.Reads as SystemLocality-target-value
 use Rattle.hmat.proofs.SystemLocality.entry_value.Reads as SystemLocality-entry-value
 use Rattle.hmat.proofs.SystemLocality.fits.Reads as SystemLocality-fits
+use Rattle.hmat.proofs.SystemLocality.width.Reads as SystemLocality-width
+use Rattle.hmat.proofs.SystemLocality.targets_at.Reads as SystemLocality-targets-at
 use Rattle.hmat.proofs.SystemLocality.from_body.Reads as SystemLocality-from-body
 use Rattle.hmat.proofs.SystemLocality.put_body.Reads as SystemLocality-put-body
 use Rattle.hmat.proofs.SystemLocality.put_fields.Reads as SystemLocality-put-fields
 use Rattle.hmat.proofs.SystemLocality.locality.Reads as SystemLocality-locality
 use Rattle.hmat.proofs.SystemLocality.bad_field.Reads as SystemLocality-bad-field
 use Rattle.hmat.proofs.SystemLocality.is_sound.Reads as SystemLocality-is-sound
+use Rattle.hmat.proofs.Value.initiator_kind.Reads as Value-initiator-kind
+use Rattle.hmat.proofs.Value.target_kind.Reads as Value-target-kind
+use Rattle.hmat.proofs.Value.value_at.Reads as Value-value-at
 use Rattle.hmat.proofs.Value.from_body.Reads as Value-from-body
 use Rattle.hmat.proofs.Value.put_body.Reads as Value-put-body
 use Rattle.hmat.proofs.Value.bad_field.Reads as Value-bad-field
+use Rattle.hmat.proofs.Cell.kind.Reads as Cell-kind
+use Rattle.hmat.proofs.Cell.body_len.Reads as Cell-body-len
+use Rattle.hmat.proofs.Cell.target_at.Reads as Cell-target-at
+use Rattle.hmat.proofs.Cell.value_at.Reads as Cell-value-at
 use Rattle.hmat.proofs.Cell.from_body.Reads as Cell-from-body
 use Rattle.hmat.proofs.Cell.put_body.Reads as Cell-put-body
 use Rattle.hmat.proofs.Cell.bad_field.Reads as Cell-bad-field
@@ -86,6 +101,14 @@ matrixIn vs =
 
 abbrev sideIn : List ℕ → MemorySideCache
 sideIn vs = record { «proximity_domain» = at vs 0; «cache_size» = at vs 1; attributes = at vs 2; «smbios_handles» = at vs 3 }
+
+pub width-back : (w : Width) → widthNamed (meantWidth w) ≡ w
+width-back Byte = refl
+width-back Pair = refl
+
+-- `SystemLocality::width`
+one-width : (a b : Width) (w : format.Width) → meantWidth a ≡ w → meantWidth b ≡ w → a ≡ b
+one-width = sole-meant meantWidth widthNamed width-back
 
 -- `MemoryProximityDomain::get`, `MemoryProximityDomain::from_body`
 one-domain : (a b : MemoryProximityDomain) (n : Node) → domainNode a ≡ n → domainNode b ≡ n → a ≡ b
@@ -148,6 +171,7 @@ pub record Unique : Type 0 where
   MemoryProximityDomain-from-body : Fixes MemoryProximityDomain-from-body.Learnt (λ k x p. x)
   MemoryProximityDomain-put-body : Fixes {S = ℕ × List ℕ} MemoryProximityDomain-put-body.Learnt (λ k x p. (x, p .1 .0 .now))
   MemoryProximityDomain-put-fields : Fixes MemoryProximityDomain-put-fields.Learnt (λ k x p. p .1 .0 .now)
+  Width-is : Fixes Width-is.Learnt (λ k x p. x)
   DataType-number : Fixes DataType-number.Learnt (λ k x p. x)
   MinTransferSize-number : Fixes MinTransferSize-number.Learnt (λ k x p. x)
   LocalityType-number : Fixes LocalityType-number.Learnt (λ k x p. x)
@@ -168,17 +192,26 @@ pub record Unique : Type 0 where
   SystemLocality-target-value : Fixes SystemLocality-target-value.Learnt (λ k x p. x)
   SystemLocality-entry-value : Fixes SystemLocality-entry-value.Learnt (λ k x p. x)
   SystemLocality-fits : Fixes SystemLocality-fits.Learnt (λ k x p. x)
+  SystemLocality-width : Fixes SystemLocality-width.Learnt (λ k x p. x)
+  SystemLocality-targets-at : Fixes SystemLocality-targets-at.Learnt (λ k x p. x)
   SystemLocality-from-body : Fixes SystemLocality-from-body.Learnt (λ k x p. x)
   SystemLocality-put-body : Fixes {S = ℕ × List ℕ} SystemLocality-put-body.Learnt (λ k x p. (x, p .1 .0 .now))
   SystemLocality-put-fields : Fixes SystemLocality-put-fields.Learnt (λ k x p. p .1 .0 .now)
   SystemLocality-locality : Fixes SystemLocality-locality.Learnt (λ k x p. x)
   SystemLocality-bad-field : Fixes SystemLocality-bad-field.Learnt (λ k x p. x)
   SystemLocality-is-sound : Fixes SystemLocality-is-sound.Learnt (λ k x p. x)
+  Value-initiator-kind : Fixes Value-initiator-kind.Learnt (λ k x p. x)
+  Value-target-kind : Fixes Value-target-kind.Learnt (λ k x p. x)
+  Value-value-at : Fixes Value-value-at.Learnt (λ k x p. x)
   Value-from-body : Fixes Value-from-body.Learnt (λ k x p. x)
-  Value-put-body : Fixes {S = ℕ × List ℕ} Value-put-body.Learnt (λ k x p. (x, p .1 .1 .0 .now))
+  Value-put-body : Fixes {S = ℕ × List ℕ} Value-put-body.Learnt (λ k x p. (x, p .1 .1 .1 .0 .now))
   Value-bad-field : Fixes Value-bad-field.Learnt (λ k x p. x)
+  Cell-kind : Fixes Cell-kind.Learnt (λ k x p. x)
+  Cell-body-len : Fixes Cell-body-len.Learnt (λ k x p. x)
+  Cell-target-at : Fixes Cell-target-at.Learnt (λ k x p. x)
+  Cell-value-at : Fixes Cell-value-at.Learnt (λ k x p. x)
   Cell-from-body : Fixes Cell-from-body.Learnt (λ k x p. x)
-  Cell-put-body : Fixes {S = ℕ × List ℕ} Cell-put-body.Learnt (λ k x p. (x, p .1 .0 .now))
+  Cell-put-body : Fixes {S = ℕ × List ℕ} Cell-put-body.Learnt (λ k x p. (x, p .1 .1 .0 .now))
   Cell-bad-field : Fixes Cell-bad-field.Learnt (λ k x p. x)
   Cell-stands : Fixes Cell-stands.Learnt (λ k x p. x)
   CacheLevel-number : Fixes CacheLevel-number.Learnt (λ k x p. x)
@@ -216,6 +249,7 @@ unique =
       MemoryProximityDomain-from-body = λ k a x y p q. one-domain x y _;
       MemoryProximityDomain-put-body = λ k a x y p q l m. sole-pair (sole (l .1) (m .1)) (sole (l .0) (m .0));
       MemoryProximityDomain-put-fields = λ k a x y p q. sole;
+      Width-is = λ k a x y p q. sole;
       DataType-number = λ k a x y p q. sole;
       MinTransferSize-number = λ k a x y p q. sole;
       LocalityType-number = λ k a x y p q. sole;
@@ -231,20 +265,29 @@ unique =
       SystemLocality-set-initiator-value = λ k a x y p q. sole;
       SystemLocality-set-target-value = λ k a x y p q. sole;
       SystemLocality-set-entry-value = λ k a x y p q. sole;
-      SystemLocality-get = λ k a x y p q. one-matrix x y _;
+      SystemLocality-get = λ k a x y p q l m. one-matrix x y _ (l byte) (m byte);
       SystemLocality-initiator-value = λ k a x y p q. sole;
       SystemLocality-target-value = λ k a x y p q. sole;
       SystemLocality-entry-value = λ k a x y p q. sole;
       SystemLocality-fits = λ k a x y p q. sole;
+      SystemLocality-width = λ k a x y p q. one-width x y _;
+      SystemLocality-targets-at = λ k a x y p q. sole;
       SystemLocality-from-body = λ k a x y p q. one-matrix-body x y _;
       SystemLocality-put-body = λ k a x y p q l m. sole-pair (sole (l .1) (m .1)) (sole (l .0) (m .0));
       SystemLocality-put-fields = λ k a x y p q. sole;
       SystemLocality-locality = λ k a x y p q. sole;
       SystemLocality-bad-field = λ k a x y p q. sole;
-      SystemLocality-is-sound = λ k a x y p q. sole;
+      SystemLocality-is-sound = λ k a x y p q l m. sole (l byte) (m byte);
+      Value-initiator-kind = λ k a x y p q. sole;
+      Value-target-kind = λ k a x y p q. sole;
+      Value-value-at = λ k a x y p q. sole;
       Value-from-body = λ k a x y p q. one-value x y _;
       Value-put-body = λ k a x y p q l m. sole-pair (sole (l .1) (m .1)) (sole (l .0) (m .0));
-      Value-bad-field = λ k a x y p q. sole;
+      Value-bad-field = λ k a x y p q l m. sole (l byte) (m byte);
+      Cell-kind = λ k a x y p q. sole;
+      Cell-body-len = λ k a x y p q. sole;
+      Cell-target-at = λ k a x y p q. sole;
+      Cell-value-at = λ k a x y p q. sole;
       Cell-from-body = λ k a x y p q. one-cell x y _;
       Cell-put-body = λ k a x y p q l m. sole-pair (sole (l .1) (m .1)) (sole (l .0) (m .0));
       Cell-bad-field = λ k a x y p q. sole;

@@ -68,7 +68,7 @@ matrixFront m = lay (take 11 (layout (matrixForm m))) (matrixFields m)
 abbrev pub matrixUnset : SystemLocality → List ℕ
 matrixUnset m = replicate (4 * (m .initiators + m .targets)) 0 ++ replicate (2 * (m .initiators * m .targets)) 255
 
--- row 6 shows flags, data type, transfer size, I, T, unit
+-- rows 6 and 12 show flags, data type, transfer size, I, T, unit
 abbrev pub matrixShown : SystemLocality → List ℕ
 matrixShown m =
     m .flags ∷ m .«data_type» ∷ m .«min_transfer_size» ∷ m .initiators ∷ m .targets ∷ m .«entry_base_unit» ∷ []

@@ -1,12 +1,13 @@
 -- What joins a node of HMAT: where a setting of a matrix goes in a table, and what settings and handles are in a recipe.
-use Prim.Native.Nat.{ℕ, _+_, _*_, _<_}
+use Prim.Native.Nat.{ℕ, suc, _+_, _*_, _<_}
 use mathlib.Core.List.{List, [], _∷_}
 use mathlib.Core.Bool.{Bool}
 use lib.Dec.{eqb, leb, ltb}
 use lib.ListN.{length}
-use Rattle.format.specs.Bytes.{all, at}
-use Rattle.format.specs.Layout.{lay}
-use Rattle.format.specs.Kind.{body}
+use Rattle.format.specs.Bytes.{both, all, at, value, part}
+use Rattle.format.specs.Layout.{width, lay}
+use Rattle.format.specs.Form.{Width, octets}
+use Rattle.format.specs.Kind.{kindNumber, body}
 use Rattle.format.specs.Kind as format
 use Rattle.laws.specs.Settings.{Setting, initiator, target, cell}
 use Rattle.hmat.specs.declared.Value.{Value}
@@ -37,17 +38,22 @@ wideIn (cell j k v) = 2
 abbrev pub valueFields : Value → List ℕ
 valueFields v = v .idx ∷ v .value ∷ []
 
--- the record of a value, of an initiator or a target by its kind byte: their bodies are alike
-abbrev pub valueCall : ℕ → Value → List ℕ
-valueCall kind v = kind ∷ lay (body format.Initiator) (valueFields v)
+-- the record of a value, its index of width w, of an initiator or a target by its kind byte: their bodies are alike
+abbrev pub valueCall : Width → ℕ → Value → List ℕ
+valueCall w kind v = kind ∷ lay (body (format.Initiator w)) (valueFields v)
 
 -- initiator, target, number
 abbrev pub cellFields : Cell → List ℕ
 cellFields c = c .«initiator_idx» ∷ c .«target_idx» ∷ c .value ∷ []
 
--- at a place of a recipe stands the whole record of a cell of an I by T matrix
-abbrev pub goodCell : List ℕ → ℕ → ℕ → ℕ → Bool
-goodCell r p i t = all (eqb (at r p) 52 ∷ leb (p + 5) (length r) ∷ ltb (at r (p + 1)) i ∷ ltb (at r (p + 2)) t ∷ [])
+-- the two indices that a cell's body begins with are below I and T
+abbrev pub inCounts : Width → List ℕ → ℕ → ℕ → Bool
+inCounts w bs i t = both (ltb (value (part bs 0 (octets w))) i) (ltb (value (part bs (octets w) (octets w))) t)
+
+-- at a place of a recipe stands the whole record of a cell of an I by T matrix, its indices of width w
+abbrev pub goodCell : Width → List ℕ → ℕ → ℕ → ℕ → Bool
+goodCell w r p i t =
+    all (eqb (at r p) (kindNumber (format.Cell w)) ∷ leb (suc p + width (body (format.Cell w))) (length r) ∷ ltb (value (part r (p + 1) (octets w))) i ∷ ltb (value (part r (p + 1 + octets w) (octets w))) t ∷ [])
 
 -- the one field of a handle
 abbrev pub handleFields : SmbiosHandle → List ℕ

@@ -9,18 +9,21 @@ ghost use lib.Dec.{eqb, leb, ltb};
 ghost use lib.ListN.{length, drop};
 ghost use Rattle.format.specs.Bytes.{le, value, part, over, bits};
 ghost use Rattle.format.specs.Layout.{asIs, fields, fixedOk};
-ghost use Rattle.format.specs.Form.{domain, side, size, layout, matrixFlags, sideAttributes};
+ghost use Rattle.format.specs.Layout as items;
+ghost use Rattle.format.specs.Form.{domain, side, size, layout, octets, upTo, narrowest, matrixFlags, sideAttributes};
+ghost use Rattle.format.specs.Form as form;
 ghost use Rattle.format.specs.Node.{node, bytes, nodeAt};
-ghost use Rattle.format.specs.Kind.{Domain, Matrix, Initiator, Side, body};
+ghost use Rattle.format.specs.Kind.{Domain, Matrix, Initiator, Target, Side, kindNumber, body};
 ghost use Rattle.format.specs.Kind as format;
 ghost use Rattle.format.specs.Normal.{call, callsOfNode};
 ghost use Rattle.format.specs.Field.{badIn, badField};
-ghost use Rattle.format.specs.Row.{matrices, sides, column, formIn};
+ghost use Rattle.format.specs.Row.{matrices, sides, counted, column, formIn};
 ghost use Rattle.format.specs.Read.{sound};
 ghost use Rattle.laws.specs.Offsets.{trimmed};
 ghost use Rattle.hmat.specs.Numbers.{dataTypeNumber, transferNumber, localityNumber, levelNumber, associativityNumber, policyNumber};
+ghost use Rattle.hmat.specs.Widths.{meantWidth};
 ghost use Rattle.hmat.specs.Hmat.{domainOf, domainShown, domainNode, matrixOf, matrixWith, matrixForm, matrixHead, matrixFront, matrixUnset, matrixNode, matrixShown, sideOf, sideForm, sideFields, sideHead, sideFront, sideShown, grown, matrixCall};
-ghost use Rattle.hmat.specs.Settings.{valueFields, valueCall, cellFields, goodCell, handleFields};
+ghost use Rattle.hmat.specs.Settings.{valueFields, valueCall, cellFields, inCounts, goodCell, handleFields};
 
 // ---- row 5
 
@@ -169,7 +172,41 @@ impl MemoryProximityDomain {
     }
 }
 
-// ---- row 6
+// ---- rows 6 and 12
+
+// How wide a recipe writes the counts of a matrix and the indices of its settings: in one byte or in two.
+pub enum Width {
+    Byte,
+    Pair,
+}
+
+impl Width {
+    // How many bytes that are.
+    fn octets(self) -> usize
+        ensures { λ r. ⌜ r ≡ octets (meantWidth self) ⌝ }
+    {
+        match self {
+            Width::Byte => 1,
+            Width::Pair => 2,
+        }
+    }
+
+    pub fn is(self, other: Width) -> bool
+        ensures { λ r. ⌜ r ≡ eqb (octets (meantWidth self)) (octets (meantWidth other)) ⌝ }
+    {
+        self.octets() == other.octets()
+    }
+
+    // Reads a number that is so wide.
+    fn get(self, bytes: &[u8], at: usize) -> u16
+        ensures { λ r. ⌜ r ≡ value (part (now (bytes .entry)) at (octets (meantWidth self))) ⌝ }
+    {
+        match self {
+            Width::Byte => field::get_u8(bytes, at) as u16,
+            Width::Pair => field::get_u16(bytes, at),
+        }
+    }
+}
 
 pub enum DataType {
     // if read and write latencies are identical
@@ -265,10 +302,14 @@ pub struct SystemLocality {
 }
 
 impl SystemLocality {
-    // The kind byte, and the length of the body behind it.
+    // The kind bytes by width, and the lengths of the bodies behind them.
     pub const KIND: u8 = 49;
 
+    pub const WIDE_KIND: u8 = 55;
+
     pub const BODY: usize = 13;
+
+    pub const WIDE_BODY: usize = 15;
 
     pub const TYPE: u16 = 1;
 
@@ -279,7 +320,10 @@ impl SystemLocality {
     pub const FIELDS: usize = 6;
 
     // the most initiators, and the most targets
-    const MAX_COUNT: u32 = 255;
+    const MAX_COUNT: u32 = 4096;
+
+    // the most of them that a byte counts
+    const NARROW: u32 = 255;
 
     pub const MINIMUM_TRANSFER_SIZE_REQD: u8 = 0x10;
 
@@ -304,10 +348,15 @@ impl SystemLocality {
 
     pub const INITIATORS_AT: usize = 11;
 
-    pub const TARGETS_AT: usize = 12;
+    // behind a count of one byte, or of two
+    const TARGETS_AT: usize = 12;
+
+    const WIDE_TARGETS_AT: usize = 13;
 
     // Kind, flags, data type, transfer size, unit, I, T.
     const BODY_WIDTHS: [usize; 7] = [1, 1, 1, 1, 8, 1, 1];
+
+    const WIDE_BODY_WIDTHS: [usize; 7] = [1, 1, 1, 1, 8, 2, 2];
 
     // Type, 2 zero, length, flags, data type, transfer size, 0, I, T, 4 zero, unit.
     const WIDTHS: [usize; 11] = [2, 2, 4, 1, 1, 1, 1, 4, 4, 4, 8];
@@ -475,7 +524,7 @@ impl SystemLocality {
 
     // Reads the record at a place, without values and cells.
     pub fn get(table: &[u8], at: usize) -> Self
-        ensures { λ r. ⌜ matrixHead r ≡ trimmed 4 (nodeAt asIs (formIn matrices (drop at (now (table .entry)))) (drop at (now (table .entry)))) ⌝ }
+        ensures { λ r. ⌜ ((w : form.Width) → matrixHead r ≡ trimmed 4 (nodeAt asIs (formIn (matrices w) (drop at (now (table .entry)))) (drop at (now (table .entry))))) ⌝ }
     {
         let s = field::rest(table, at);
         Self {
@@ -515,22 +564,44 @@ impl SystemLocality {
         field::get_u16(table, place)
     }
 
-    // The Length column of the row: more initiators or targets than a recipe can count make a record unknown, not faulty.
-    pub fn fits(row: &[u8]) -> bool
-        ensures { λ r. ⌜ r ≡ column matrices (now (row .entry)) ⌝ }
+    // Whether both counts are up to a number.
+    fn up_to(n: u32, initiators: u32, targets: u32) -> bool
+        ensures { λ r. ⌜ r ≡ upTo n initiators targets ⌝ }
+    {
+        if n < initiators {
+            return false;
+        }
+        targets <= n
+    }
+
+    // Whether both counts are up to the most, and one is above what a byte counts: no matrix is in two rows.
+    fn is_wide(initiators: u32, targets: u32) -> bool
+        ensures { λ r. ⌜ r ≡ counted form.pair initiators targets ⌝ }
+    {
+        if Self::up_to(Self::NARROW, initiators, targets) {
+            return false;
+        }
+        Self::up_to(Self::MAX_COUNT, initiators, targets)
+    }
+
+    // The Length column of the row, 6 or 12: more initiators or targets than the most make a record unknown, not faulty.
+    pub fn fits(width: Width, row: &[u8]) -> bool
+        ensures { λ r. ⌜ r ≡ column (matrices (meantWidth width)) (now (row .entry)) ⌝ }
     {
         if row.len() < Self::LEN {
             return false;
         }
-        if Self::MAX_COUNT < field::get_u32(row, 12) {
-            return false;
+        let initiators = field::get_u32(row, 12);
+        let targets = field::get_u32(row, 16);
+        match width {
+            Width::Byte => Self::up_to(Self::NARROW, initiators, targets),
+            Width::Pair => Self::is_wide(initiators, targets),
         }
-        field::get_u32(row, 16) <= Self::MAX_COUNT
     }
 
     // Zeros, fixed values, counts and length of a record.
     fn is_fixed(row: &[u8]) -> bool
-        ensures { λ r. ⌜ r ≡ fixedOk (layout (formIn matrices (now (row .entry)))) (now (row .entry)) ⌝ }
+        ensures { λ r. ⌜ ((w : form.Width) → r ≡ fixedOk (layout (formIn (matrices w) (now (row .entry)))) (now (row .entry))) ⌝ }
     {
         if field::get_u16(row, 0) != Self::TYPE {
             return false;
@@ -547,27 +618,57 @@ impl SystemLocality {
         field::get_u32(row, 20) == 0
     }
 
+    // The width of a recipe's normal form: one byte where that counts both.
+    pub fn width(self) -> Width
+        ensures { λ r. ⌜ meantWidth r ≡ narrowest (self .initiators) (self .targets) ⌝ }
+    {
+        if Self::up_to(Self::NARROW, self.initiators, self.targets) {
+            return Width::Byte;
+        }
+        Width::Pair
+    }
+
+    // The kind byte of a width.
+    fn kind(width: Width) -> u8
+        ensures { λ r. ⌜ r ≡ kindNumber (Matrix (meantWidth width)) ⌝ }
+    {
+        match width {
+            Width::Byte => Self::KIND,
+            Width::Pair => Self::WIDE_KIND,
+        }
+    }
+
+    // Where the count of targets stands in a body.
+    pub fn targets_at(width: Width) -> usize
+        ensures { λ r. ⌜ r ≡ 11 + octets (meantWidth width) ⌝ }
+    {
+        match width {
+            Width::Byte => Self::TARGETS_AT,
+            Width::Pair => Self::WIDE_TARGETS_AT,
+        }
+    }
+
     // The node of a body, of which nothing is set.
-    pub fn from_body(bytes: &[u8]) -> Self
-        ensures { λ r. ⌜ matrixCall r ≡ fields (body Matrix) (now (bytes .entry)) ⌝ }
+    pub fn from_body(width: Width, bytes: &[u8]) -> Self
+        ensures { λ r. ⌜ matrixCall r ≡ fields (body (Matrix (meantWidth width))) (now (bytes .entry)) ⌝ }
     {
         Self {
             flags: field::get_u8(bytes, Self::FLAGS_AT),
             data_type: field::get_u8(bytes, Self::DATA_TYPE_AT),
             min_transfer_size: field::get_u8(bytes, Self::TRANSFER_SIZE_AT),
             entry_base_unit: field::get_u64(bytes, Self::BASE_UNIT_AT),
-            initiators: field::get_u8(bytes, Self::INITIATORS_AT) as u32,
-            targets: field::get_u8(bytes, Self::TARGETS_AT) as u32,
+            initiators: width.get(bytes, Self::INITIATORS_AT) as u32,
+            targets: width.get(bytes, Self::targets_at(width)) as u32,
         }
     }
 
-    // Writes kind byte and body, without settings; how many bytes that is.
-    pub fn put_body(self, out: &mut [u8], at: usize) -> usize
-        ensures { λ _. ⌜ now (out .exit) ≡ over (now (out .entry)) at (call Matrix (matrixCall self)) ⌝ }
-        ensures { λ r. ⌜ r ≡ length (call Matrix (matrixCall self)) ⌝ }
+    // Writes kind byte and body of a width; how many bytes that is.
+    fn put_as(self, width: Width, out: &mut [u8], at: usize) -> usize
+        ensures { λ _. ⌜ now (out .exit) ≡ over (now (out .entry)) at (call (Matrix (meantWidth width)) (matrixCall self)) ⌝ }
+        ensures { λ r. ⌜ r ≡ length (call (Matrix (meantWidth width)) (matrixCall self)) ⌝ }
     {
         let vs = [
-            Self::KIND as u64,
+            Self::kind(width) as u64,
             self.flags as u64,
             self.data_type as u64,
             self.min_transfer_size as u64,
@@ -575,8 +676,24 @@ impl SystemLocality {
             self.initiators as u64,
             self.targets as u64,
         ];
-        field::put_all(out, at, &Self::BODY_WIDTHS, &vs);
-        1 + Self::BODY
+        match width {
+            Width::Byte => {
+                field::put_all(out, at, &Self::BODY_WIDTHS, &vs);
+                1 + Self::BODY
+            }
+            Width::Pair => {
+                field::put_all(out, at, &Self::WIDE_BODY_WIDTHS, &vs);
+                1 + Self::WIDE_BODY
+            }
+        }
+    }
+
+    // Writes kind byte and body, without settings, in the normal form's width; how many bytes that is.
+    pub fn put_body(self, out: &mut [u8], at: usize) -> usize
+        ensures { λ _. ⌜ now (out .exit) ≡ over (now (out .entry)) at (call (Matrix (narrowest (self .initiators) (self .targets))) (matrixCall self)) ⌝ }
+        ensures { λ r. ⌜ r ≡ length (call (Matrix (narrowest (self .initiators) (self .targets))) (matrixCall self)) ⌝ }
+    {
+        self.put_as(self.width(), out, at)
     }
 
     // Writes the values that a reading call shows, in their order.
@@ -624,12 +741,19 @@ impl SystemLocality {
         if Self::MAX_TRANSFER_SIZE < self.min_transfer_size {
             return 1 + Self::TRANSFER_SIZE_AT;
         }
+        if Self::MAX_COUNT < self.initiators {
+            return 1 + Self::INITIATORS_AT;
+        }
+        // more than the most is never counted in a byte: behind initiators of two
+        if Self::MAX_COUNT < self.targets {
+            return 1 + Self::WIDE_TARGETS_AT;
+        }
         0
     }
 
     // Whether a record is fixed where it has to be, and no field outside its range.
     pub fn is_sound(row: &[u8]) -> bool
-        ensures { λ r. ⌜ r ≡ sound (formIn matrices (now (row .entry))) (now (row .entry)) ⌝ }
+        ensures { λ r. ⌜ ((w : form.Width) → r ≡ sound (formIn (matrices w) (now (row .entry))) (now (row .entry))) ⌝ }
     {
         if !Self::is_fixed(row) {
             return false;
@@ -642,17 +766,23 @@ impl SystemLocality {
 
 // The value of an initiator or of a target.
 pub struct Value {
-    pub idx: u8,
+    pub idx: u16,
     pub value: u32,
 }
 
 impl Value {
-    // The kind bytes by side, and the length of the body behind them.
+    // The kind bytes by side and width, and the lengths of the bodies behind them.
     pub const INITIATOR_KIND: u8 = 50;
 
     pub const TARGET_KIND: u8 = 51;
 
+    pub const WIDE_INITIATOR_KIND: u8 = 56;
+
+    pub const WIDE_TARGET_KIND: u8 = 57;
+
     pub const BODY: usize = 5;
+
+    pub const WIDE_BODY: usize = 6;
 
     // in a matrix's record
     pub const LEN: usize = 4;
@@ -660,37 +790,78 @@ impl Value {
     // what is not set
     pub const UNSET: u32 = 0;
 
-    // Where the fields stand in a body.
+    // Where the fields stand in a body: the number behind an index of one byte, or of two.
     pub const INDEX_AT: usize = 0;
 
-    pub const VALUE_AT: usize = 1;
+    const VALUE_AT: usize = 1;
+
+    const WIDE_VALUE_AT: usize = 2;
 
     // Kind, index, number.
     const BODY_WIDTHS: [usize; 3] = [1, 1, 4];
 
+    const WIDE_BODY_WIDTHS: [usize; 3] = [1, 2, 4];
+
+    // The kind byte of a width, for an initiator or for a target.
+    pub fn initiator_kind(width: Width) -> u8
+        ensures { λ r. ⌜ r ≡ kindNumber (Initiator (meantWidth width)) ⌝ }
+    {
+        match width {
+            Width::Byte => Self::INITIATOR_KIND,
+            Width::Pair => Self::WIDE_INITIATOR_KIND,
+        }
+    }
+
+    pub fn target_kind(width: Width) -> u8
+        ensures { λ r. ⌜ r ≡ kindNumber (Target (meantWidth width)) ⌝ }
+    {
+        match width {
+            Width::Byte => Self::TARGET_KIND,
+            Width::Pair => Self::WIDE_TARGET_KIND,
+        }
+    }
+
+    // Where the number stands in them.
+    pub fn value_at(width: Width) -> usize
+        ensures { λ r. ⌜ r ≡ octets (meantWidth width) ⌝ }
+    {
+        match width {
+            Width::Byte => Self::VALUE_AT,
+            Width::Pair => Self::WIDE_VALUE_AT,
+        }
+    }
+
     // The value of a body.
-    pub fn from_body(bytes: &[u8]) -> Self
-        ensures { λ r. ⌜ valueFields r ≡ fields (body Initiator) (now (bytes .entry)) ⌝ }
+    pub fn from_body(width: Width, bytes: &[u8]) -> Self
+        ensures { λ r. ⌜ valueFields r ≡ fields (body (Initiator (meantWidth width))) (now (bytes .entry)) ⌝ }
     {
         Self {
-            idx: field::get_u8(bytes, Self::INDEX_AT),
-            value: field::get_u32(bytes, Self::VALUE_AT),
+            idx: width.get(bytes, Self::INDEX_AT),
+            value: field::get_u32(bytes, Self::value_at(width)),
         }
     }
 
     // Writes a kind byte and the body; how many bytes that is.
-    pub fn put_body(self, kind: u8, out: &mut [u8], at: usize) -> usize
-        ensures { λ _. ⌜ now (out .exit) ≡ over (now (out .entry)) at (valueCall kind self) ⌝ }
-        ensures { λ r. ⌜ r ≡ length (valueCall kind self) ⌝ }
+    pub fn put_body(self, width: Width, kind: u8, out: &mut [u8], at: usize) -> usize
+        ensures { λ _. ⌜ now (out .exit) ≡ over (now (out .entry)) at (valueCall (meantWidth width) kind self) ⌝ }
+        ensures { λ r. ⌜ r ≡ length (valueCall (meantWidth width) kind self) ⌝ }
     {
         let vs = [kind as u64, self.idx as u64, self.value as u64];
-        field::put_all(out, at, &Self::BODY_WIDTHS, &vs);
-        1 + Self::BODY
+        match width {
+            Width::Byte => {
+                field::put_all(out, at, &Self::BODY_WIDTHS, &vs);
+                1 + Self::BODY
+            }
+            Width::Pair => {
+                field::put_all(out, at, &Self::WIDE_BODY_WIDTHS, &vs);
+                1 + Self::WIDE_BODY
+            }
+        }
     }
 
     // The place of the index where it is not below the count, from the kind byte; 0 where it is.
     pub fn bad_field(self, count: u32) -> usize
-        ensures { λ r. ⌜ r ≡ badIn Initiator (ltb (self .idx) count ∷ []) ⌝ }
+        ensures { λ r. ⌜ ((w : form.Width) → r ≡ badIn (Initiator w) (ltb (self .idx) count ∷ [])) ⌝ }
     {
         if count <= self.idx as u32 {
             return 1 + Self::INDEX_AT;
@@ -701,85 +872,158 @@ impl Value {
 
 // A cell, of an initiator and a target.
 pub struct Cell {
-    pub initiator_idx: u8,
-    pub target_idx: u8,
+    pub initiator_idx: u16,
+    pub target_idx: u16,
     pub value: u16,
 }
 
 impl Cell {
-    // The kind byte, and the length of the body behind it.
+    // The kind bytes by width, and the lengths of the bodies behind them.
     pub const KIND: u8 = 52;
 
+    pub const WIDE_KIND: u8 = 58;
+
     pub const BODY: usize = 4;
+
+    pub const WIDE_BODY: usize = 6;
 
     // in a matrix's record
     pub const LEN: usize = 2;
 
-    // Where the fields stand in a body.
+    // Where the fields stand in a body: the last two behind indices of one byte, or of two.
     pub const INITIATOR_AT: usize = 0;
 
-    pub const TARGET_AT: usize = 1;
+    const TARGET_AT: usize = 1;
 
-    pub const VALUE_AT: usize = 2;
+    const WIDE_TARGET_AT: usize = 2;
+
+    const VALUE_AT: usize = 2;
+
+    const WIDE_VALUE_AT: usize = 4;
 
     // Kind, two indices, number.
     const BODY_WIDTHS: [usize; 4] = [1, 1, 1, 2];
 
+    const WIDE_BODY_WIDTHS: [usize; 4] = [1, 2, 2, 2];
+
+    // The kind byte of a width.
+    pub fn kind(width: Width) -> u8
+        ensures { λ r. ⌜ r ≡ kindNumber (format.Cell (meantWidth width)) ⌝ }
+    {
+        match width {
+            Width::Byte => Self::KIND,
+            Width::Pair => Self::WIDE_KIND,
+        }
+    }
+
+    // The number of bytes that follow it.
+    pub fn body_len(width: Width) -> usize
+        ensures { λ r. ⌜ r ≡ items.width (body (format.Cell (meantWidth width))) ⌝ }
+    {
+        match width {
+            Width::Byte => Self::BODY,
+            Width::Pair => Self::WIDE_BODY,
+        }
+    }
+
+    // Where the target and the number stand in them.
+    pub fn target_at(width: Width) -> usize
+        ensures { λ r. ⌜ r ≡ octets (meantWidth width) ⌝ }
+    {
+        match width {
+            Width::Byte => Self::TARGET_AT,
+            Width::Pair => Self::WIDE_TARGET_AT,
+        }
+    }
+
+    pub fn value_at(width: Width) -> usize
+        ensures { λ r. ⌜ r ≡ octets (meantWidth width) + octets (meantWidth width) ⌝ }
+    {
+        match width {
+            Width::Byte => Self::VALUE_AT,
+            Width::Pair => Self::WIDE_VALUE_AT,
+        }
+    }
+
     // The cell of a body.
-    pub fn from_body(bytes: &[u8]) -> Self
-        ensures { λ r. ⌜ cellFields r ≡ fields (body format.Cell) (now (bytes .entry)) ⌝ }
+    pub fn from_body(width: Width, bytes: &[u8]) -> Self
+        ensures { λ r. ⌜ cellFields r ≡ fields (body (format.Cell (meantWidth width))) (now (bytes .entry)) ⌝ }
     {
         Self {
-            initiator_idx: field::get_u8(bytes, Self::INITIATOR_AT),
-            target_idx: field::get_u8(bytes, Self::TARGET_AT),
-            value: field::get_u16(bytes, Self::VALUE_AT),
+            initiator_idx: width.get(bytes, Self::INITIATOR_AT),
+            target_idx: width.get(bytes, Self::target_at(width)),
+            value: field::get_u16(bytes, Self::value_at(width)),
         }
     }
 
     // Writes kind byte and body; how many bytes that is.
-    pub fn put_body(self, out: &mut [u8], at: usize) -> usize
-        ensures { λ _. ⌜ now (out .exit) ≡ over (now (out .entry)) at (call format.Cell (cellFields self)) ⌝ }
-        ensures { λ r. ⌜ r ≡ length (call format.Cell (cellFields self)) ⌝ }
+    pub fn put_body(self, width: Width, out: &mut [u8], at: usize) -> usize
+        ensures { λ _. ⌜ now (out .exit) ≡ over (now (out .entry)) at (call (format.Cell (meantWidth width)) (cellFields self)) ⌝ }
+        ensures { λ r. ⌜ r ≡ length (call (format.Cell (meantWidth width)) (cellFields self)) ⌝ }
     {
         let vs = [
-            Self::KIND as u64,
+            Self::kind(width) as u64,
             self.initiator_idx as u64,
             self.target_idx as u64,
             self.value as u64,
         ];
-        field::put_all(out, at, &Self::BODY_WIDTHS, &vs);
-        1 + Self::BODY
+        match width {
+            Width::Byte => {
+                field::put_all(out, at, &Self::BODY_WIDTHS, &vs);
+                1 + Self::BODY
+            }
+            Width::Pair => {
+                field::put_all(out, at, &Self::WIDE_BODY_WIDTHS, &vs);
+                1 + Self::WIDE_BODY
+            }
+        }
     }
 
     // The place of the first index that is not below its count, from the kind byte; 0 where both are.
-    pub fn bad_field(self, initiators: u32, targets: u32) -> usize
-        ensures { λ r. ⌜ r ≡ badIn format.Cell (ltb (self .«initiator_idx») initiators ∷ ltb (self .«target_idx») targets ∷ []) ⌝ }
+    pub fn bad_field(self, width: Width, initiators: u32, targets: u32) -> usize
+        ensures { λ r. ⌜ r ≡ badIn (format.Cell (meantWidth width)) (ltb (self .«initiator_idx») initiators ∷ ltb (self .«target_idx») targets ∷ []) ⌝ }
     {
         if initiators <= self.initiator_idx as u32 {
             return 1 + Self::INITIATOR_AT;
         }
         if targets <= self.target_idx as u32 {
-            return 1 + Self::TARGET_AT;
+            return 1 + Self::target_at(width);
         }
         0
     }
 
-    // Whether the whole record of a cell of an I by T matrix stands at a place of a recipe.
-    pub fn stands(recipe: &[u8], at: usize, initiators: u32, targets: u32) -> bool
-        ensures { λ r. ⌜ r ≡ goodCell (now (recipe .entry)) at initiators targets ⌝ }
+    // Whether the indices of a body are below I and T.
+    fn is_inside(width: Width, bytes: &[u8], initiators: u32, targets: u32) -> bool
+        ensures { λ r. ⌜ r ≡ inCounts (meantWidth width) (now (bytes .entry)) initiators targets ⌝ }
+    {
+        Self::from_body(width, bytes).bad_field(width, initiators, targets) == 0
+    }
+
+    // Whether the whole record of a cell of an I by T matrix stands at a place of a recipe. The window that is read has a length that the
+    // compiler knows, in either width: no bound is tested for each field.
+    pub fn stands(recipe: &[u8], at: usize, width: Width, initiators: u32, targets: u32) -> bool
+        ensures { λ r. ⌜ r ≡ goodCell (meantWidth width) (now (recipe .entry)) at initiators targets ⌝ }
     {
         if recipe.len() <= at {
             return false;
         }
-        if recipe.len() - at < 1 + Self::BODY {
+        if recipe.len() - at < 1 + Self::body_len(width) {
             return false;
         }
-        if recipe[at] != Self::KIND {
+        if recipe[at] != Self::kind(width) {
             return false;
         }
         let from = at + 1;
-        let end = from + Self::BODY;
-        Self::from_body(&recipe[from..end]).bad_field(initiators, targets) == 0
+        match width {
+            Width::Byte => {
+                let end = from + Self::BODY;
+                Self::is_inside(Width::Byte, &recipe[from..end], initiators, targets)
+            }
+            Width::Pair => {
+                let end = from + Self::WIDE_BODY;
+                Self::is_inside(Width::Pair, &recipe[from..end], initiators, targets)
+            }
+        }
     }
 }
 

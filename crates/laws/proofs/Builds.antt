@@ -12,7 +12,8 @@ use Rattle.format.specs.Bytes.{pick, firstOf, Bytes, at, part, refused, given, 
 use Rattle.format.specs.Layout.{width, fields, fixedOk}
 use Rattle.format.specs.Table.{Table, pptt, srat, hmat, cedt, code, front, limit, Head, headOf}
 use Rattle.format.specs.Node.{Node, sizes}
-use Rattle.format.specs.Kind.{Kind, Processor, Resource, Cache, Memory, Acpi, Pci, Rintc, Domain, Matrix, Initiator, Target, Cell, Side, Handle, Bridge, Window, WindowTarget, Xor, Map, kindNumber, kinds, kindOf, noKind, body}
+use Rattle.format.specs.Form.{Width, byte}
+use Rattle.format.specs.Kind.{Kind, Processor, Resource, Cache, Memory, Acpi, Pci, Rintc, Domain, Matrix, Initiator, Target, Cell, Side, Handle, Bridge, Window, WindowTarget, Xor, Map, kindNumber, kinds, kindOf, noKind, body, partIn, widthBehind}
 use Rattle.format.specs.Recipe.{Calls, done, badKind, cutOff, called, cutAs, skip, cut, newest, step, added, fault, lacking, faultAt, Meaning, means, since, run, tableOf, headed, meaning}
 use Rattle.format.specs.Build.{tableFrom}
 use Rattle.format.specs.Out.{meaningOf}
@@ -36,10 +37,10 @@ fixed-body Acpi bs = refl
 fixed-body Pci bs = refl
 fixed-body Rintc bs = refl
 fixed-body Domain bs = refl
-fixed-body Matrix bs = refl
-fixed-body Initiator bs = refl
-fixed-body Target bs = refl
-fixed-body Cell bs = refl
+fixed-body (Matrix w) bs = refl
+fixed-body (Initiator w) bs = refl
+fixed-body (Target w) bs = refl
+fixed-body (Cell w) bs = refl
 fixed-body Side bs = refl
 fixed-body Handle bs = refl
 fixed-body Bridge bs = refl
@@ -58,10 +59,10 @@ sane-body Acpi = (tt, (tt, (tt, (tt, tt))))
 sane-body Pci = (tt, (tt, (tt, (tt, (tt, (tt, tt))))))
 sane-body Rintc = (tt, (tt, (tt, (tt, tt))))
 sane-body Domain = (tt, (tt, tt))
-sane-body Matrix = (tt, (tt, (tt, (tt, (tt, (tt, tt))))))
-sane-body Initiator = (tt, (tt, tt))
-sane-body Target = (tt, (tt, tt))
-sane-body Cell = (tt, (tt, (tt, tt)))
+sane-body (Matrix w) = (tt, (tt, (tt, (tt, (tt, (tt, tt))))))
+sane-body (Initiator w) = (tt, (tt, tt))
+sane-body (Target w) = (tt, (tt, tt))
+sane-body (Cell w) = (tt, (tt, (tt, tt)))
 sane-body Side = (tt, (tt, (tt, tt)))
 sane-body Handle = (tt, tt)
 sane-body Bridge = (tt, (tt, (tt, tt)))
@@ -76,7 +77,7 @@ body-fits k bs h l = fields-fit (body k) bs (sane-body k) h l (fixed-body k bs)
 all-home : (t : Table) → All (λ k. kindHome k ≡ t) (kinds t)
 all-home pptt = (refl, (refl, (refl, tt)))
 all-home srat = (refl, (refl, (refl, (refl, tt))))
-all-home hmat = (refl, (refl, (refl, (refl, (refl, (refl, (refl, tt)))))))
+all-home hmat = (refl, (refl, (refl, (refl, (refl, (refl, (refl, (refl, (refl, (refl, (refl, tt)))))))))))
 all-home cedt = (refl, (refl, (refl, (refl, (refl, tt)))))
 
 pub kind-home : (t : Table) (b : ℕ) (k : Kind) → kindOf t b ≡ some k → kindHome k ≡ t
@@ -90,26 +91,26 @@ other-table {t} {u} e f = eqb-false (code t) (code u) e (ap code f)
 -- ---- what holds of all that is cut
 
 -- of the kind and the fields of each record, and of the number for a byte that names no kind
-abbrev pub Each : (Kind → List ℕ → Type 0) → (ℕ → Type 0) → Calls → Type 0
-Each P Q done = Unit
-Each P Q (badKind n p) = Q n
-Each P Q (cutOff p k) = Unit
-Each P Q (called p k vs rest) = P k vs × Each P Q rest
+abbrev pub Each : (Kind → List ℕ → Type 0) → (ℕ → Type 0) → (Kind → Type 0) → Calls → Type 0
+Each P Q R done = Unit
+Each P Q R (badKind n p) = Q n
+Each P Q R (cutOff p k) = R k
+Each P Q R (called p k vs rest) = P k vs × Each P Q R rest
 
 -- where S, which holds of a list, holds of what is left behind its first byte
-module _ (t : Table) (S : List ℕ → Type 0) (P : Kind → List ℕ → Type 0) (Q : ℕ → Type 0) (behind : (b : ℕ) (bs : List ℕ) → S (b ∷ bs) → S bs)
-    (unnamed : (b : ℕ) → Q (noKind t b))
+module _ (t : Table) (S : List ℕ → Type 0) (P : Kind → List ℕ → Type 0) (Q : ℕ → Type 0) (R : Kind → Type 0) (behind : (b : ℕ) (bs : List ℕ) → S (b ∷ bs) → S bs)
+    (unnamed : (b : ℕ) → Q (noKind t b)) (short : (b : ℕ) (k : Kind) → kindOf t b ≡ some k → R k)
     (named : (b : ℕ) (k : Kind) (bs : List ℕ) → kindOf t b ≡ some k → S bs → width (body k) ≤ length bs → P k (fields (body k) bs)) where
-  each-as : (b : ℕ) (o : Option Kind) (bs : List ℕ) (p : ℕ) (rest : Calls) → kindOf t b ≡ o → S bs → Each P Q rest → Each P Q (cutAs o (noKind t b) bs p rest)
+  each-as : (b : ℕ) (o : Option Kind) (bs : List ℕ) (p : ℕ) (rest : Calls) → kindOf t b ≡ o → S bs → Each P Q R rest → Each P Q R (cutAs o (noKind t b) bs p rest)
   unfolding cutAs
   each-as b none bs p rest e s w = unnamed b
   each-as b (some k) bs p rest e s w = long (ltb (length bs) (width (body k))) refl
     where
-      long : (x : Bool) → ltb (length bs) (width (body k)) ≡ x → Each P Q (pick x (cutOff p k) (called p k (fields (body k) bs) rest))
-      long true f = tt
+      long : (x : Bool) → ltb (length bs) (width (body k)) ≡ x → Each P Q R (pick x (cutOff p k) (called p k (fields (body k) bs) rest))
+      long true f = short b k e
       long false f = (named b k bs e s (ltb-false (length bs) (width (body k)) f), w)
 
-  pub cut-each : (n p : ℕ) (bs : List ℕ) → S bs → Each P Q (cut t n p bs)
+  pub cut-each : (n p : ℕ) (bs : List ℕ) → S bs → Each P Q R (cut t n p bs)
   unfolding cut
   cut-each n p [] s = tt
   cut-each (suc n) p (b ∷ bs) s = cut-each n (suc p) bs (behind b bs s)
@@ -119,31 +120,31 @@ module _ (t : Table) (S : List ℕ → Type 0) (P : Kind → List ℕ → Type 0
 
 -- every record is the table's, and its fields fit
 abbrev Whole : Table → Calls → Type 0
-Whole t = Each (λ k vs. (kindHome k ≡ t) × Fit (body k) vs) (λ n. Unit)
+Whole t = Each (λ k vs. (kindHome k ≡ t) × Fit (body k) vs) (λ n. Unit) (λ k. Unit)
 
 cut-whole : (t : Table) (n p : ℕ) (bs : List ℕ) → Bytes bs → Whole t (cut t n p bs)
 cut-whole t =
-    cut-each t Bytes (λ k vs. (kindHome k ≡ t) × Fit (body k) vs) (λ n. Unit) (λ b bs h. h .1) (λ b. tt) (λ b k bs e h l. (kind-home t b k e, body-fits k bs h l))
+    cut-each t Bytes (λ k vs. (kindHome k ≡ t) × Fit (body k) vs) (λ n. Unit) (λ k. Unit) (λ b bs h. h .1) (λ b. tt) (λ b k e. tt) (λ b k bs e h l. (kind-home t b k e, body-fits k bs h l))
 
 -- ---- the pass
 
-run-good : (h : Head) (q : ℕ) (ns : List Node) (cs : Calls) (m : Meaning)
-    → Whole (h .table) cs → Grown (h .table) ns → front (h .table) + sizes ns ≤ limit → run h q ns cs ≡ given m
+run-good : (h : Head) (q : ℕ) (u : Width) (ns : List Node) (cs : Calls) (m : Meaning)
+    → Whole (h .table) cs → Grown (h .table) ns → front (h .table) + sizes ns ≤ limit → run h q u ns cs ≡ given m
     → (h ≡ m .head) × Good (h .table) (m .nodes) × (front (h .table) + sizes (m .nodes) ≤ limit)
 unfolding run
-run-good h q ns done m w g l e =
+run-good h q u ns done m w g l e =
     let (z, r) = unless-given (lacking (newest ns) none) q (given (means h ns)) e in
     let i : means h ns ≡ m = cc in
     rw (← i) (refl, whole-good (h .table) ns none refl z g, l)
-run-good h q ns (badKind n p) m w g l e = absurd (let (z, r) = unless-given (lacking (newest ns) none) q (refused n p) e in let z : _≡_ {A = ℕ} 0 1 = cc in omega arith)
-run-good h q ns (cutOff p k) m w g l e = absurd (let (z, r) = unless-given (lacking (newest ns) (some k)) q (refused 3 p) e in let z : _≡_ {A = ℕ} 0 1 = cc in omega arith)
-run-good h q ns (called p k vs rest) m ((own, f), w) g l e =
-    let n = fault (h .table) ns k vs in
+run-good h q u ns (badKind n p) m w g l e = absurd (let (z, r) = unless-given (lacking (newest ns) none) q (refused n p) e in let z : _≡_ {A = ℕ} 0 1 = cc in omega arith)
+run-good h q u ns (cutOff p k) m w g l e = absurd (let (z, r) = unless-given (lacking (newest ns) (some k)) q (refused 3 p) e in let z : _≡_ {A = ℕ} 0 1 = cc in omega arith)
+run-good h q u ns (called p k vs rest) m ((own, f), w) g l e =
+    let n = fault (h .table) u ns k vs in
     let (i, d) = unless-given (lacking (newest ns) (some k)) q _ e in
-    let (z, r) = unless-given n (p + faultAt n k (step k vs ns .ranges)) (run h (since ns (added k vs ns) p q) (added k vs ns) rest) d in
-    let s = passed (h .table) ns k vs z in
+    let (z, r) = unless-given n (p + faultAt n k (step k vs ns .ranges)) (run h (since ns (added k vs ns) p q) (widthBehind (partIn k) u) (added k vs ns) rest) d in
+    let s = passed (h .table) u ns k vs z in
     let more : Grown (kindHome k) (added k vs ns) = grows k vs ns f (rw own s) i (rw own g) in
-    run-good h (since ns (added k vs ns) p q) (added k vs ns) rest m w (rw own at more) (s .short) r
+    run-good h (since ns (added k vs ns) p q) (widthBehind (partIn k) u) (added k vs ns) rest m w (rw own at more) (s .short) r
 
 pub front-short : (t : Table) → front t + 0 ≤ limit
 front-short pptt = omega arith
@@ -172,9 +173,9 @@ headed-given r h e =
 pub meaning-good : (r : List ℕ) (m : Meaning) → Bytes r → meaning r ≡ given m → Means m
 unfolding meaning sizes
 meaning-good r m b e =
-    let (h, d, f) = then-given (headed r) (λ h. run h 0 [] (cut (h .table) 0 28 (drop 28 r))) e in
+    let (h, d, f) = then-given (headed r) (λ h. run h 0 byte [] (cut (h .table) 0 28 (drop 28 r))) e in
     let t = h .table in
-    let (same, g, l) = run-good h 0 [] (cut t 0 28 (drop 28 r)) m (cut-whole t 0 28 (drop 28 r) (bytes-drop 28 r b)) (inl tt) (front-short t) f in
+    let (same, g, l) = run-good h 0 byte [] (cut t 0 28 (drop 28 r)) m (cut-whole t 0 28 (drop 28 r) (bytes-drop 28 r b)) (inl tt) (front-short t) f in
     let (own, n) = headed-given r h d in
     let i : h .identity ≡ part r 2 26 = ap (λ (h : Head). h .identity) own in
     let whole : h ≡ headOf t (h .identity) = rw i own in

@@ -14,9 +14,9 @@ use borrow.Author.Tests.{le-ltb, lt-leb, ltb-true, leb-true}
 use Rattle.format.specs.Bytes.{both, at}
 use Rattle.format.specs.Layout.{fld, to, orNone, width, lay, isGood, refsGood}
 use Rattle.format.specs.Table.{Table, pptt, srat, hmat, cedt, front, limit, Head}
-use Rattle.format.specs.Form.{Form, processor, cache, memory, acpi, pci, rintc, domain, side, bridge, window, xor, size, layout, registers, ways, ranges}
+use Rattle.format.specs.Form.{Form, processor, cache, memory, acpi, pci, rintc, domain, side, bridge, window, xor, size, Width, byte, pair, layout, registers, ways, ranges}
 use Rattle.format.specs.Node.{Node, node, Entry, sizes, starts, atOrdinal}
-use Rattle.format.specs.Kind.{Kind, Processor, Resource, Cache, Memory, Acpi, Pci, Rintc, Domain, Matrix, Initiator, Target, Cell, Side, Handle, Bridge, Window, WindowTarget, Xor, Map, kindNumber, kindOf, noKind, body}
+use Rattle.format.specs.Kind.{Kind, Processor, Resource, Cache, Memory, Acpi, Pci, Rintc, Domain, Matrix, Initiator, Target, Cell, Side, Handle, Bridge, Window, WindowTarget, Xor, Map, kindNumber, kindOf, noKind, body, partIn, suits, widthBehind}
 use Rattle.format.specs.Recipe.{cutAs, skip, cut, called, newest, joined, step, added, lacking, since, run}
 use Rattle.format.specs.Normal.{call, each}
 use Rattle.laws.proofs.Finds.{All}
@@ -38,10 +38,14 @@ kind-back Acpi = refl
 kind-back Pci = refl
 kind-back Rintc = refl
 kind-back Domain = refl
-kind-back Matrix = refl
-kind-back Initiator = refl
-kind-back Target = refl
-kind-back Cell = refl
+kind-back (Matrix byte) = refl
+kind-back (Matrix pair) = refl
+kind-back (Initiator byte) = refl
+kind-back (Initiator pair) = refl
+kind-back (Target byte) = refl
+kind-back (Target pair) = refl
+kind-back (Cell byte) = refl
+kind-back (Cell pair) = refl
 kind-back Side = refl
 kind-back Handle = refl
 kind-back Bridge = refl
@@ -82,21 +86,41 @@ module _ (v : ℕ) (is : List ℕ) where
   abbrev pub under : Table → Head
   under t = record { table = t; revision = v; identity = is }
 
-  abbrev pub Leads : Table → List Node → List ℕ → List Node → Type 0
-  Leads t ns xs ns′ = (p q : ℕ) (rest : List ℕ) → (p′ : ℕ) × (q′ : ℕ) × (run (under t) q ns (cut t 0 p (xs ++ rest)) ≡ run (under t) q′ ns′ (cut t 0 p′ rest))
+  -- the newest matrix's counts are so wide before, and so wide behind them
+  abbrev pub LeadsAs : Width → Width → Table → List Node → List ℕ → List Node → Type 0
+  LeadsAs u w t ns xs ns′ =
+      (p q : ℕ) (rest : List ℕ) → (p′ : ℕ) × (q′ : ℕ) × (run (under t) q u ns (cut t 0 p (xs ++ rest)) ≡ run (under t) q′ w ns′ (cut t 0 p′ rest))
 
-  pub stay : (t : Table) (ns : List Node) → Leads t ns [] ns
-  stay t ns p q rest = (p, q, refl)
+  pub stay-as : (u : Width) (t : Table) (ns : List Node) → LeadsAs u u t ns [] ns
+  stay-as u t ns p q rest = (p, q, refl)
 
-  pub then : (t : Table) (ns₁ ns₂ ns₃ : List Node) (xs ys : List ℕ) → Leads t ns₁ xs ns₂ → Leads t ns₂ ys ns₃ → Leads t ns₁ (xs ++ ys) ns₃
-  then t ns₁ ns₂ ns₃ xs ys a b p q rest =
+  pub then-as : (u w x : Width) (t : Table) (ns₁ ns₂ ns₃ : List Node) (xs ys : List ℕ) → LeadsAs u w t ns₁ xs ns₂ → LeadsAs w x t ns₂ ys ns₃ → LeadsAs u x t ns₁ (xs ++ ys) ns₃
+  then-as u w x t ns₁ ns₂ ns₃ xs ys a b p q rest =
       let (p₁, q₁, e) = a p q (ys ++ rest) in
       let (p₂, q₂, f) = b p₁ q₁ rest in
       (p₂, q₂, rw append-assoc (e ∙ f))
 
-  pub lead : (k : Kind) (vs : List ℕ) (ns : List Node) → lacking (newest ns) (some k) ≡ 0 → Fit (body k) vs → Passed (kindHome k) ns k vs → Leads (kindHome k) ns (call k vs) (added k vs ns)
+  pub lead-as : (u : Width) (k : Kind) (vs : List ℕ) (ns : List Node) → suits (partIn k) u ≡ true → lacking (newest ns) (some k) ≡ 0 → Fit (body k) vs → Passed (kindHome k) ns k vs
+      → LeadsAs u (widthBehind (partIn k) u) (kindHome k) ns (call k vs) (added k vs ns)
   unfolding run
-  lead k vs ns i f s p q rest = (suc p + width (body k), since ns (added k vs ns) p q, rw (cut-call k vs rest p f, i, no-fault (kindHome k) ns k vs s))
+  lead-as u k vs ns d i f s p q rest = (suc p + width (body k), since ns (added k vs ns) p q, rw (cut-call k vs rest p f, i, no-fault (kindHome k) u ns k vs d s))
+
+  -- however wide they are before
+  abbrev pub Leads : Table → List Node → List ℕ → List Node → Type 0
+  Leads t ns xs ns′ = (u : Width) → (w : Width) × LeadsAs u w t ns xs ns′
+
+  pub stay : (t : Table) (ns : List Node) → Leads t ns [] ns
+  stay t ns u = (u, stay-as u t ns)
+
+  pub then : (t : Table) (ns₁ ns₂ ns₃ : List Node) (xs ys : List ℕ) → Leads t ns₁ xs ns₂ → Leads t ns₂ ys ns₃ → Leads t ns₁ (xs ++ ys) ns₃
+  then t ns₁ ns₂ ns₃ xs ys a b u =
+      let (w, c) = a u in
+      let (x, d) = b w in
+      (x, then-as u w x t ns₁ ns₂ ns₃ xs ys c d)
+
+  pub lead : (k : Kind) (vs : List ℕ) (ns : List Node) → ((u : Width) → suits (partIn k) u ≡ true) → lacking (newest ns) (some k) ≡ 0 → Fit (body k) vs → Passed (kindHome k) ns k vs
+      → Leads (kindHome k) ns (call k vs) (added k vs ns)
+  lead k vs ns d i f s u = (widthBehind (partIn k) u, lead-as u k vs ns (d u) i f s)
 
 -- the newest node lacks nothing
 abbrev pub Free : List Node → Type 0
@@ -110,7 +134,7 @@ module _ (v : ℕ) (is vs : List ℕ) (ns : List Node) (free : Free ns) where
   lead-cache g l =
       let f = g .fit in
       let q = both-true (ltb (at vs 0) 256) _ (g .ruled) in
-      lead v is Cache vs ns (free (some Cache)) (refit (omega (arith, ltb-true (at vs 0) 256 (q .0))) (f .1 .1 .1 .0), f .1 .1 .1 .1)
+      lead v is Cache vs ns (λ u. refl) (free (some Cache)) (refit (omega (arith, ltb-true (at vs 0) 256 (q .0))) (f .1 .1 .1 .0), f .1 .1 .1 .1)
       (record { place = refl; field = g .ruled; refs = g .refs; room = refl; short = l })
 
   pub lead-memory : GoodNode srat (starts srat ns) (node memory vs) → front srat + sizes (node memory vs ∷ ns) ≤ limit → Leads v is srat ns (call Memory vs) (node memory vs ∷ ns)
@@ -118,7 +142,7 @@ module _ (v : ℕ) (is vs : List ℕ) (ns : List Node) (free : Free ns) where
   lead-memory g l =
       let f = g .fit in
       let b : at (drop 1 (drop 1 (drop 1 vs))) 0 < 256 ^ 1 = omega (arith, leb-true (at vs 3) 7 (g .ruled), fourth vs) in
-      lead v is Memory vs ns (free (some Memory)) (f .1 .1 .0, (f .1 .1 .1 .1 .0, (f .1 .1 .1 .1 .1 .0, (refit b (f .1 .1 .1 .1 .1 .1 .1 .0), f .1 .1 .1 .1 .1 .1 .1 .1 .1))))
+      lead v is Memory vs ns (λ u. refl) (free (some Memory)) (f .1 .1 .0, (f .1 .1 .1 .1 .0, (f .1 .1 .1 .1 .1 .0, (refit b (f .1 .1 .1 .1 .1 .1 .1 .0), f .1 .1 .1 .1 .1 .1 .1 .1 .1))))
       (record { place = refl; field = g .ruled; refs = refl; room = refl; short = l })
 
   pub lead-acpi : GoodNode srat (starts srat ns) (node acpi vs) → front srat + sizes (node acpi vs ∷ ns) ≤ limit → Leads v is srat ns (call Acpi vs) (node acpi vs ∷ ns)
@@ -126,7 +150,7 @@ module _ (v : ℕ) (is vs : List ℕ) (ns : List Node) (free : Free ns) where
   lead-acpi g l =
       let f = g .fit in
       let b : at (drop 1 (drop 1 (drop 1 vs))) 0 < 256 ^ 1 = omega (arith, leb-true (at vs 3) 3 (g .ruled), fourth vs) in
-      lead v is Acpi vs ns (free (some Acpi)) (f .1 .1 .1 .1 .0, (f .1 .1 .1 .1 .1 .0, (f .1 .1 .1 .1 .1 .1 .0, (refit b (f .1 .1 .1 .1 .1 .1 .1 .1 .0), f .1 .1 .1 .1 .1 .1 .1 .1 .1 .1))))
+      lead v is Acpi vs ns (λ u. refl) (free (some Acpi)) (f .1 .1 .1 .1 .0, (f .1 .1 .1 .1 .1 .0, (f .1 .1 .1 .1 .1 .1 .0, (refit b (f .1 .1 .1 .1 .1 .1 .1 .1 .0), f .1 .1 .1 .1 .1 .1 .1 .1 .1 .1))))
       (record { place = refl; field = g .ruled; refs = refl; room = refl; short = l })
 
   pub lead-rintc : GoodNode srat (starts srat ns) (node rintc vs) → front srat + sizes (node rintc vs ∷ ns) ≤ limit → Leads v is srat ns (call Rintc vs) (node rintc vs ∷ ns)
@@ -134,14 +158,14 @@ module _ (v : ℕ) (is vs : List ℕ) (ns : List Node) (free : Free ns) where
   lead-rintc g l =
       let f = g .fit in
       let b : at (drop 1 (drop 1 vs)) 0 < 256 ^ 1 = omega (arith, leb-true (at vs 2) 1 (g .ruled), third vs) in
-      lead v is Rintc vs ns (free (some Rintc)) (f .1 .1 .1 .0, (f .1 .1 .1 .1 .0, (refit b (f .1 .1 .1 .1 .1 .0), f .1 .1 .1 .1 .1 .1)))
+      lead v is Rintc vs ns (λ u. refl) (free (some Rintc)) (f .1 .1 .1 .0, (f .1 .1 .1 .1 .0, (refit b (f .1 .1 .1 .1 .1 .0), f .1 .1 .1 .1 .1 .1)))
       (record { place = refl; field = g .ruled; refs = refl; room = refl; short = l })
 
   pub lead-domain : GoodNode hmat (starts hmat ns) (node domain vs) → front hmat + sizes (node domain vs ∷ ns) ≤ limit → Leads v is hmat ns (call Domain vs) (node domain vs ∷ ns)
   unfolding body layout refsGood step
   lead-domain g l =
       let f = g .fit in
-      lead v is Domain vs ns (free (some Domain)) (f .1 .1 .1 .1 .1 .0, (f .1 .1 .1 .1 .1 .1 .0, f .1 .1 .1 .1 .1 .1 .1 .1))
+      lead v is Domain vs ns (λ u. refl) (free (some Domain)) (f .1 .1 .1 .1 .1 .0, (f .1 .1 .1 .1 .1 .1 .0, f .1 .1 .1 .1 .1 .1 .1 .1))
       (record { place = refl; field = refl; refs = refl; room = refl; short = l })
 
   pub lead-bridge : (n : ℕ) → GoodNode cedt (starts cedt ns) (node (bridge n) vs) → front cedt + sizes (node (bridge n) vs ∷ ns) ≤ limit → Leads v is cedt ns (call Bridge vs) (node (bridge n) vs ∷ ns)
@@ -150,7 +174,7 @@ module _ (v : ℕ) (is vs : List ℕ) (ns : List Node) (free : Free ns) where
       let f = g .fit in
       let e : n ≡ registers (at vs 1) = g .within .1 in
       let b : at (drop 1 vs) 0 < 256 ^ 1 = omega (arith, leb-true (at vs 1) 1 (g .ruled), second vs) in
-      rw e (lead v is Bridge vs ns (free (some Bridge)) (f .1 .1 .1 .0, (refit b (f .1 .1 .1 .1 .0), (f .1 .1 .1 .1 .1 .1 .0, f .1 .1 .1 .1 .1 .1 .1 .1)))
+      rw e (lead v is Bridge vs ns (λ u. refl) (free (some Bridge)) (f .1 .1 .1 .0, (refit b (f .1 .1 .1 .1 .0), (f .1 .1 .1 .1 .1 .1 .0, f .1 .1 .1 .1 .1 .1 .1 .1)))
       (record { place = refl; field = g .ruled; refs = refl; room = refl; short = l }))
 
 pub lead-pci : (v : ℕ) (is vs : List ℕ) (ns : List Node) → Free ns → length vs ≡ 6 → GoodNode srat (starts srat ns) (node pci vs) → front srat + sizes (node pci vs ∷ ns) ≤ limit → Leads v is srat ns (call Pci vs) (node pci vs ∷ ns)
@@ -165,7 +189,7 @@ lead-pci v is (a ∷ b ∷ c ∷ d ∷ e ∷ x ∷ vs) ns free m g l =
     let f = g .fit in
     let p = both-true (leb d 31) (both (leb e 7) (leb x 3)) (g .ruled) in
     let q = both-true (leb e 7) (leb x 3) (p .1) in
-    lead v is Pci (a ∷ b ∷ c ∷ d ∷ e ∷ x ∷ vs) ns (free (some Pci)) (
+    lead v is Pci (a ∷ b ∷ c ∷ d ∷ e ∷ x ∷ vs) ns (λ u. refl) (free (some Pci)) (
       f .1 .1 .1 .1 .0,
       (
         f .1 .1 .1 .1 .1 .0,
@@ -215,28 +239,28 @@ module _ (v : ℕ) (is : List ℕ) (ns : List Node) (n : ℕ) where
       → Leads v is pptt (node (processor m) us ∷ ns) (call Resource (w ∷ [])) (node (processor (suc m)) (us ++ (w ∷ [])) ∷ ns)
   unfolding body refsGood step joined sizes
   one-resource k l m us w o b j =
-      lead v is Resource (w ∷ []) (node (processor m) us ∷ ns) (needless Resource 58 m (processor (suc m)) us ns (some Resource)) (record { there = omega arith; below = o .0; low = tt }, refl)
+      lead v is Resource (w ∷ []) (node (processor m) us ∷ ns) (λ u. refl) (needless Resource 58 m (processor (suc m)) us ns (some Resource)) (record { there = omega arith; below = o .0; low = tt }, refl)
       (record { place = refl; field = refl; refs = rw (o .1); room = lt-leb 58 m (omega arith); short = omega arith })
 
   one-handle : n ≤ 65535 → front hmat + (sizes ns + size (side n)) ≤ limit → (m : ℕ) (us : List ℕ) (w : ℕ) → w < 256 ^ 2 → m < n → length us ≡ 3 + m
       → Leads v is hmat (node (side m) us ∷ ns) (call Handle (w ∷ [])) (node (side (suc m)) (us ++ (w ∷ [])) ∷ ns)
   unfolding body refsGood step joined sizes
   one-handle k l m us w o b j =
-      lead v is Handle (w ∷ []) (node (side m) us ∷ ns) (needless Handle 65535 m (side (suc m)) us ns (some Handle)) (fld-fit o, refl)
+      lead v is Handle (w ∷ []) (node (side m) us ∷ ns) (λ u. refl) (needless Handle 65535 m (side (suc m)) us ns (some Handle)) (fld-fit o, refl)
       (record { place = refl; field = refl; refs = refl; room = lt-leb 65535 m (omega arith); short = omega arith })
 
   one-map : n ≤ 255 → front cedt + (sizes ns + size (xor n)) ≤ limit → (m : ℕ) (us : List ℕ) (w : ℕ) → w < 256 ^ 8 → m < n → length us ≡ 1 + m
       → Leads v is cedt (node (xor m) us ∷ ns) (call Map (w ∷ [])) (node (xor (suc m)) (us ++ (w ∷ [])) ∷ ns)
   unfolding body refsGood step joined sizes
   one-map k l m us w o b j =
-      lead v is Map (w ∷ []) (node (xor m) us ∷ ns) (needless Map 255 m (xor (suc m)) us ns (some Map)) (fld-fit o, refl)
+      lead v is Map (w ∷ []) (node (xor m) us ∷ ns) (λ u. refl) (needless Map 255 m (xor (suc m)) us ns (some Map)) (fld-fit o, refl)
       (record { place = refl; field = refl; refs = refl; room = lt-leb 255 m (omega arith); short = omega arith })
 
   one-target : front cedt + (sizes ns + size (window n)) ≤ limit → (m : ℕ) (us : List ℕ) (w : ℕ) → w < 256 ^ 4 → m < n → length us ≡ 7 + m
       → Leads v is cedt (node (window n) us ∷ ns) (call WindowTarget (w ∷ [])) (node (window n) (us ++ (w ∷ [])) ∷ ns)
   unfolding body refsGood step joined sizes lacking
   one-target l m us w o b j =
-      lead v is WindowTarget (w ∷ []) (node (window n) us ∷ ns) (rw (both-false (ltb (length us - 7) n))) (fld-fit o, refl)
+      lead v is WindowTarget (w ∷ []) (node (window n) us ∷ ns) (λ u. refl) (rw (both-false (ltb (length us - 7) n))) (fld-fit o, refl)
       (record { place = refl; field = refl; refs = refl; room = lt-leb n (length us - 7) (omega arith); short = omega arith })
 
 pub lead-processor : (v : ℕ) (is : List ℕ) (n : ℕ) (vs : List ℕ) (ns : List Node) → Free ns → GoodNode pptt (starts pptt ns) (node (processor n) vs) → front pptt + (sizes ns + size (processor n)) ≤ limit
@@ -252,7 +276,7 @@ lead-processor v is n (a ∷ b ∷ c ∷ ws) ns free g l =
     let q = all-refer es n ws (f .1 .1 .1 .1) (p .1) in
     let k : n ≤ 58 = g .within in
     let first : Leads v is pptt ns (call Processor (a ∷ b ∷ c ∷ [])) (node (processor 0) (a ∷ b ∷ c ∷ []) ∷ ns) =
-    lead v is Processor (a ∷ b ∷ c ∷ []) ns (free (some Processor)) (fld-fit (f .0 .below), (record { there = omega arith; below = f .1 .0 .below; low = tt }, (fld-fit (f .1 .1 .0 .below), refl)))
+    lead v is Processor (a ∷ b ∷ c ∷ []) ns (λ u. refl) (free (some Processor)) (fld-fit (f .0 .below), (record { there = omega arith; below = f .1 .0 .below; low = tt }, (fld-fit (f .1 .1 .0 .below), refl)))
     (record { place = refl; field = refl; refs = rw (p .0); room = refl; short = omega arith }) in
     let z : 0 + length ws ≡ n = omega (arith, q .1) in
     let more : Leads v is pptt (node (processor 0) (a ∷ b ∷ c ∷ []) ∷ ns) (each Resource ws) (node (processor (0 + length ws)) (a ∷ b ∷ c ∷ ws) ∷ ns) =
@@ -270,7 +294,7 @@ lead-side v is n (a ∷ b ∷ c ∷ ws) ns free g l =
     let q = all-below 2 n ws (f .1 .1 .1 .1 .1 .1) in
     let k : n ≤ 65535 = g .within in
     let first : Leads v is hmat ns (call Side (a ∷ b ∷ c ∷ [])) (node (side 0) (a ∷ b ∷ c ∷ []) ∷ ns) =
-    lead v is Side (a ∷ b ∷ c ∷ []) ns (free (some Side)) (fld-fit (f .0 .below), (fld-fit (f .1 .1 .0 .below), (fld-fit (f .1 .1 .1 .0 .below), refl)))
+    lead v is Side (a ∷ b ∷ c ∷ []) ns (λ u. refl) (free (some Side)) (fld-fit (f .0 .below), (fld-fit (f .1 .1 .0 .below), (fld-fit (f .1 .1 .1 .0 .below), refl)))
     (record { place = refl; field = g .ruled; refs = refl; room = refl; short = omega arith }) in
     let z : 0 + length ws ≡ n = omega (arith, q .1) in
     let more : Leads v is hmat (node (side 0) (a ∷ b ∷ c ∷ []) ∷ ns) (each Handle ws) (node (side (0 + length ws)) (a ∷ b ∷ c ∷ ws) ∷ ns) =
@@ -286,7 +310,7 @@ lead-xor v is n (a ∷ ws) ns free g l =
     let q = all-below 8 n ws (f .1 .1) in
     let k : n ≤ 255 = g .within in
     let first : Leads v is cedt ns (call Xor (a ∷ [])) (node (xor 0) (a ∷ []) ∷ ns) =
-    lead v is Xor (a ∷ []) ns (free (some Xor)) (fld-fit (f .0 .below), refl) (record { place = refl; field = g .ruled; refs = refl; room = refl; short = omega arith }) in
+    lead v is Xor (a ∷ []) ns (λ u. refl) (free (some Xor)) (fld-fit (f .0 .below), refl) (record { place = refl; field = g .ruled; refs = refl; room = refl; short = omega arith }) in
     let z : 0 + length ws ≡ n = omega (arith, q .1) in
     let more : Leads v is cedt (node (xor 0) (a ∷ []) ∷ ns) (each Map ws) (node (xor (0 + length ws)) (a ∷ ws) ∷ ns) =
     each-lead v is cedt Map xor ns (λ w. w < 256 ^ 8) n 1 (one-map v is ns n k l) 0 (a ∷ []) ws (q .0) (omega arith) refl in
@@ -312,7 +336,7 @@ lead-window v is n (a ∷ b ∷ c ∷ d ∷ e ∷ x ∷ y ∷ ws) ns m free g l 
     let p₂ = both-true (leb e 6) (leb x 31) (p₁ .1) in
     let q = all-below 4 n ws (f .1 .1 .1 .1 .1 .1 .1 .1) in
     let first : Leads v is cedt ns (call Window seven) (node (window n) seven ∷ ns) =
-    rw i (lead v is Window seven ns (free (some Window))
+    rw i (lead v is Window seven ns (λ u. refl) (free (some Window))
     (fld-fit (f .0 .below), (fld-fit (f .1 .0 .below), (fld-fit (f .1 .1 .0 .below), (fld-fit (f .1 .1 .1 .0 .below), (fld-fit (omega (arith, leb-true e 6 (p₂ .0))), (fld-fit (omega (arith, leb-true x 31 (p₂ .1))), (fld-fit (f .1 .1 .1 .1 .1 .1 .1 .0 .below), refl)))))))
     (record { place = refl; field = g .ruled; refs = refl; room = refl; short = rw (← i) l })) in
     let z : 0 + length ws ≡ n = omega (arith, q .1) in

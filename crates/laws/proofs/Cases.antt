@@ -1,4 +1,4 @@
--- C1 to C12 and the cases of orders 1, 2 and 4 hold by computation.
+-- C1 to C12 and the cases of orders 1, 2, 4 and 6 hold by computation.
 use mathlib.Core.Path.{refl}
 use Rattle.format.specs.Bytes.{le, value, part, over, sum, same}
 use Rattle.format.specs.Layout.{width, layWith, fieldsWith, fixedOk, refsGood}
@@ -9,10 +9,10 @@ use Rattle.format.specs.Node.{bytes, nodeAt, sizes, starts, atPlace, isOrdinal,
 use Rattle.format.specs.Field.{firstBad}
 use Rattle.format.specs.Recipe.{cutAs, cut, joined, setting, unset, step, fault, lacking, faultAt, run, headed, meaning}
 use Rattle.format.specs.Build.{records, header, summed, tableFrom, build, table, written, built}
-use Rattle.format.specs.Normal.{each, eachSet, settings, calls, callsOf, recipeOf, normal}
+use Rattle.format.specs.Normal.{each, eachSet, settings, matrixCalls, calls, callsOf, recipeOf, normal}
 use Rattle.format.specs.Read.{headFault, judgeHead, framed, frames, sound, recordFault, walk, walked, accept, shown, listIn, fieldsOf, partOf, read, readPart}
 use Rattle.format.specs.Out.{nodesFrom, old, outOf, meaningOf, readOut, recipe, outWritten}
-use Rattle.laws.specs.Cases.{CheckedByHand, ToldByHand, CedtByHand, RintcByHand}
+use Rattle.laws.specs.Cases.{CheckedByHand, ToldByHand, CedtByHand, RintcByHand, WideByHand}
 
 pub checked : CheckedByHand
 unfolding le value part over sum same width layWith fieldsWith fixedOk refsGood layout cacheAttributes matrixFlags sideAttributes ranges column matches rowOf formIn kindOf noKind body bytes nodeAt sizes starts atPlace isOrdinal atOrdinal placeOf ordinalOf cutAs cut joined setting unset step fault firstBad faultAt lacking run headed meaning records header summed tableFrom build table written built each eachSet settings calls callsOf recipeOf normal headFault judgeHead framed frames sound recordFault walk walked accept shown listIn fieldsOf partOf read readPart nodesFrom old outOf meaningOf readOut recipe outWritten
@@ -116,4 +116,32 @@ rintc-checked =
       place = λ room. refl;
       later = λ room. refl;
       older = λ room. refl;
+    }
+
+pub wide-checked : WideByHand
+unfolding le value part over sum same width layWith fieldsWith fixedOk refsGood layout cacheAttributes matrixFlags sideAttributes ranges column matches rowOf formIn kindOf noKind body bytes nodeAt sizes starts atPlace isOrdinal atOrdinal placeOf ordinalOf cutAs cut joined setting unset step fault firstBad faultAt lacking run headed meaning records header summed tableFrom build table written built each eachSet settings calls callsOf recipeOf normal headFault judgeHead framed frames sound recordFault walk walked accept shown listIn fieldsOf partOf read readPart nodesFrom old outOf meaningOf readOut recipe outWritten matrixCalls
+wide-checked =
+    record {
+      racks = refl;
+      initiator = refl;
+      target = refl;
+      cell = refl;
+      narrow = λ room. refl;
+      wide = λ room. refl;
+      between = λ room. refl;
+      small = refl;
+      large = refl;
+      above = λ room. refl;
+      second = λ room. refl;
+      outside = λ room. refl;
+      column = λ room. refl;
+      unknown = λ room. refl;
+      most = refl;
+      long = λ room. refl;
+      short = refl;
+      past = refl;
+      sixth = refl;
+      bit = refl;
+      dim = refl;
+      old = refl;
     }

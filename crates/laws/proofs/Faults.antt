@@ -13,13 +13,14 @@ use borrow.Author.Tests.{eqb-true, eqb-false, eq-eqb, ne-eqb, ltb-true, ltb-fals
 use Rattle.format.specs.Bytes.{pick, both, all, has, at}
 use Rattle.format.specs.Layout.{refsGood}
 use Rattle.format.specs.Table.{Table, pptt, srat, hmat, cedt, front, limit}
-use Rattle.format.specs.Form.{Form, processor, cache, memory, acpi, pci, rintc, matrix, side, bridge, window, xor, registers, ways, typeOf}
+use Rattle.format.specs.Form.{Form, processor, cache, memory, acpi, pci, rintc, matrix, side, bridge, window, xor, Width, byte, pair, registers, ways, typeOf}
 use Rattle.format.specs.Node.{Node, node, sizes, starts, isOrdinal, atOrdinal}
-use Rattle.format.specs.Kind.{Kind, Processor, Resource, Cache, Memory, Acpi, Pci, Rintc, Domain, Matrix, Initiator, Target, Cell, Side, Handle, Bridge, Window, WindowTarget, Xor, Map, kindNumber, kinds, kindOf, retired, noKind, isKind, body}
+use Rattle.format.specs.Kind.{Kind, Processor, Resource, Cache, Memory, Acpi, Pci, Rintc, Domain, Matrix, Initiator, Target, Cell, Side, Handle, Bridge, Window, WindowTarget, Xor, Map, matrixNumber, kindNumber, kinds, kindOf, retired, noKind, isKind, body, sets, partIn, suits, widthBehind}
 use Rattle.format.specs.Field.{badIn}
 use Rattle.format.specs.Recipe.{Newest, aList, aMatrix, other, newestAs, newest, joined, setting, changes, stray, step, added, fault, lacking, since, faultAt}
 use Rattle.laws.specs.Words.{FirstOf, NoneOf, FirstNot, References}
 use Rattle.laws.specs.Demand1.{Belongs, Retired, joins, After, earlier, madeAt, counts, Ranged, places, Full, Lacks, Backward, Names, recordFaults, Where, OfKind}
+use Rattle.laws.proofs.Lays.{both-true}
 use Rattle.laws.proofs.Finds.{never, All, found-test, found-in}
 use Rattle.laws.proofs.Words.{Tests, TestsAll, tests-every, found-none, among-none, among-cases, among-more, tests-leb, tests-ltb, tests-true, tests-not, tests-both, tests-as, tests-rules, tests-references, Mirrors, none-of, first-of, first-not, offsets, first-bad}
 use Rattle.laws.proofs.Links.{length-starts}
@@ -66,8 +67,9 @@ no-kind t b e = by t (found-none (λ k. eqb b (kindNumber k)) (kinds t) e)
     by hmat m =
         inl (
           refl,
-          λ h. outside 54 b
-              (past 54 (past 53 (past 52 (past 51 (past 50 (past 49 (past 48 (h .0) (m .0)) (m .1 .0)) (m .1 .1 .0)) (m .1 .1 .1 .0)) (m .1 .1 .1 .1 .0)) (m .1 .1 .1 .1 .1 .0)) (m .1 .1 .1 .1 .1 .1 .0)) (h .1),
+          λ h. let wide = m .1 .1 .1 .1 .1 .1 .1 in
+              let low = past 54 (past 53 (past 52 (past 51 (past 50 (past 49 (past 48 (h .0) (m .0)) (m .1 .0)) (m .1 .1 .0)) (m .1 .1 .1 .0)) (m .1 .1 .1 .1 .0)) (m .1 .1 .1 .1 .1 .0)) (m .1 .1 .1 .1 .1 .1 .0) in
+              outside 58 b (past 58 (past 57 (past 56 (past 55 low (wide .0)) (wide .1 .0)) (wide .1 .1 .0)) (wide .1 .1 .1 .0)) (h .1),
         )
     by cedt m = inl (refl, λ h. outside 68 b (past 68 (past 67 (past 66 (past 65 (past 64 (h .0) (m .0)) (m .1 .0)) (m .1 .1 .0)) (m .1 .1 .1 .0)) (m .1 .1 .1 .1 .0)) (h .1))
 
@@ -98,11 +100,15 @@ retired-none t b r = by (kindOf t b) refl
 
 -- ---- the newest node, and the kind byte of the record directly before
 
--- b is a kind byte of records that the newest node is made of, or no node that is joined
-abbrev pub Follows : Newest → ℕ → Type 0
-Follows (aList k least most n f us ns) b = After (joins k) b
-Follows (aMatrix i t us ns) b = (49 ≤ b) × (b ≤ 52)
-Follows other b = ((16 ≤ b) × (b ≤ 17) → ⊥) × ((49 ≤ b) × (b ≤ 54) → ⊥) × ((65 ≤ b) × (b ≤ 68) → ⊥)
+-- b is a kind byte of records that the newest node is made of, or no node that is joined; w: how wide the newest matrix's counts are written
+abbrev pub Follows : Width → Newest → ℕ → Type 0
+Follows w (aList k least most n f us ns) b = After (joins k) b
+Follows w (aMatrix i t us ns) b = (matrixNumber w ≤ b) × (b ≤ matrixNumber w + 3)
+Follows w other b = ((16 ≤ b) × (b ≤ 17) → ⊥) × ((49 ≤ b) × (b ≤ 58) → ⊥) × ((65 ≤ b) × (b ≤ 68) → ⊥)
+
+matrix-numbers : (w : Width) → (49 ≤ matrixNumber w) × (matrixNumber w ≤ 55)
+matrix-numbers byte = omega arith
+matrix-numbers pair = omega arith
 
 tests-no : {P : Type 0} → (P → ⊥) → Tests false P
 tests-no h = record { right = never; wrong = λ e. h }
@@ -110,123 +116,143 @@ tests-no h = record { right = never; wrong = λ e. h }
 tests-so : {P : Type 0} → P → Tests true P
 tests-so h = record { right = λ e. h; wrong = λ e. never (sym e) }
 
-module _ (b : ℕ) (vs : List ℕ) where
-  resource-placed : {ns : List Node} {x : Newest} → View ns x → Follows x b → Tests (joined Resource vs x .placed) (After (joins Resource) b)
+module _ (w : Width) (b : ℕ) (vs : List ℕ) where
+  resource-placed : {ns : List Node} {x : Newest} → View ns x → Follows w x b → Tests (both (joined Resource vs x .placed) true) (After (joins Resource) b)
   unfolding joined
   resource-placed seesProcessor f = tests-so f
-  resource-placed seesMatrix f = tests-no λ h. omega arith
+  resource-placed seesMatrix f = tests-no λ h. omega (arith, matrix-numbers w)
   resource-placed seesSide f = tests-no λ h. omega arith
   resource-placed seesWindow f = tests-no λ h. omega arith
   resource-placed seesXor f = tests-no λ h. omega arith
   resource-placed seesOther f = tests-no λ h. f .0 h
 
-  handle-placed : {ns : List Node} {x : Newest} → View ns x → Follows x b → Tests (joined Handle vs x .placed) (After (joins Handle) b)
+  handle-placed : {ns : List Node} {x : Newest} → View ns x → Follows w x b → Tests (both (joined Handle vs x .placed) true) (After (joins Handle) b)
   unfolding joined
   handle-placed seesProcessor f = tests-no λ h. omega arith
-  handle-placed seesMatrix f = tests-no λ h. omega arith
+  handle-placed seesMatrix f = by w f
+    where
+      by : (w : Width) → (matrixNumber w ≤ b) × (b ≤ matrixNumber w + 3) → Tests false (After (joins Handle) b)
+      by byte f = tests-no λ h. omega arith
+      by pair f = tests-no λ h. omega arith
   handle-placed seesSide f = tests-so f
   handle-placed seesWindow f = tests-no λ h. omega arith
   handle-placed seesXor f = tests-no λ h. omega arith
   handle-placed seesOther f = tests-no λ h. f .1 (omega arith)
 
-  target-placed : {ns : List Node} {x : Newest} → View ns x → Follows x b → Tests (joined WindowTarget vs x .placed) (After (joins WindowTarget) b)
+  target-placed : {ns : List Node} {x : Newest} → View ns x → Follows w x b → Tests (both (joined WindowTarget vs x .placed) true) (After (joins WindowTarget) b)
   unfolding joined
   target-placed seesProcessor f = tests-no λ h. omega arith
-  target-placed seesMatrix f = tests-no λ h. omega arith
+  target-placed seesMatrix f = tests-no λ h. omega (arith, matrix-numbers w)
   target-placed seesSide f = tests-no λ h. omega arith
   target-placed seesWindow f = tests-so f
   target-placed seesXor f = tests-no λ h. omega arith
   target-placed seesOther f = tests-no λ h. f .2 (omega arith)
 
-  map-placed : {ns : List Node} {x : Newest} → View ns x → Follows x b → Tests (joined Map vs x .placed) (After (joins Map) b)
+  map-placed : {ns : List Node} {x : Newest} → View ns x → Follows w x b → Tests (both (joined Map vs x .placed) true) (After (joins Map) b)
   unfolding joined
   map-placed seesProcessor f = tests-no λ h. omega arith
-  map-placed seesMatrix f = tests-no λ h. omega arith
+  map-placed seesMatrix f = tests-no λ h. omega (arith, matrix-numbers w)
   map-placed seesSide f = tests-no λ h. omega arith
   map-placed seesWindow f = tests-no λ h. omega arith
   map-placed seesXor f = tests-so f
   map-placed seesOther f = tests-no λ h. f .2 (omega arith)
 
-  setting-placed : (tests : ℕ → ℕ → List Bool) (field : ℕ → ℕ → ℕ) (v : ℕ) {ns : List Node} {x : Newest} → View ns x → Follows x b → Tests (setting tests field v x .placed) ((49 ≤ b) × (b ≤ 52))
+  setting-placed : (o : Width) (tests : ℕ → ℕ → List Bool) (field : ℕ → ℕ → ℕ) (v : ℕ) {ns : List Node} {x : Newest} → View ns x → Follows w x b
+      → Tests (both (setting tests field v x .placed) (suits (sets o) w)) ((matrixNumber o ≤ b) × (b ≤ matrixNumber o + 3))
   unfolding setting
-  setting-placed tests field v seesProcessor f = tests-no λ h. omega arith
-  setting-placed tests field v seesMatrix f = tests-so f
-  setting-placed tests field v seesSide f = tests-no λ h. omega arith
-  setting-placed tests field v seesWindow f = tests-no λ h. omega arith
-  setting-placed tests field v seesXor f = tests-no λ h. omega arith
-  setting-placed tests field v seesOther f = tests-no λ h. f .1 (omega arith)
+  setting-placed o tests field v seesProcessor f = tests-no λ h. omega (arith, matrix-numbers o)
+  setting-placed o tests field v seesMatrix f = by o w f
+    where
+      by : (o w : Width) → (matrixNumber w ≤ b) × (b ≤ matrixNumber w + 3) → Tests (suits (sets o) w) ((matrixNumber o ≤ b) × (b ≤ matrixNumber o + 3))
+      by byte byte f = tests-so f
+      by byte pair f = tests-no λ h. omega arith
+      by pair byte f = tests-no λ h. omega arith
+      by pair pair f = tests-so f
+  setting-placed byte tests field v seesSide f = tests-no λ h. omega arith
+  setting-placed pair tests field v seesSide f = tests-no λ h. omega arith
+  setting-placed o tests field v seesWindow f = tests-no λ h. omega (arith, matrix-numbers o)
+  setting-placed o tests field v seesXor f = tests-no λ h. omega (arith, matrix-numbers o)
+  setting-placed o tests field v seesOther f = tests-no λ h. f .1 (omega (arith, matrix-numbers o))
 
-module _ (b : ℕ) where
-  tests-placed : (k : Kind) (vs : List ℕ) (ns : List Node) → Follows (newest ns) b → Tests (step k vs ns .placed) (After (joins k) b)
+module _ (w : Width) (b : ℕ) where
+  tests-placed : (k : Kind) (vs : List ℕ) (ns : List Node) → Follows w (newest ns) b → Tests (both (step k vs ns .placed) (suits (partIn k) w)) (After (joins k) b)
   unfolding step
   tests-placed Processor vs ns f = tests-true
-  tests-placed Resource vs ns f = resource-placed b vs (view ns) f
+  tests-placed Resource vs ns f = resource-placed w b vs (view ns) f
   tests-placed Cache vs ns f = tests-true
   tests-placed Memory vs ns f = tests-true
   tests-placed Acpi vs ns f = tests-true
   tests-placed Pci vs ns f = tests-true
   tests-placed Rintc vs ns f = tests-true
   tests-placed Domain vs ns f = tests-true
-  tests-placed Matrix vs ns f = tests-true
-  tests-placed Initiator vs ns f = setting-placed b vs _ _ _ (view ns) f
-  tests-placed Target vs ns f = setting-placed b vs _ _ _ (view ns) f
-  tests-placed Cell vs ns f = setting-placed b vs _ _ _ (view ns) f
+  tests-placed (Matrix o) vs ns f = tests-true
+  tests-placed (Initiator o) vs ns f = setting-placed w b vs o _ _ _ (view ns) f
+  tests-placed (Target o) vs ns f = setting-placed w b vs o _ _ _ (view ns) f
+  tests-placed (Cell o) vs ns f = setting-placed w b vs o _ _ _ (view ns) f
   tests-placed Side vs ns f = tests-true
-  tests-placed Handle vs ns f = handle-placed b vs (view ns) f
+  tests-placed Handle vs ns f = handle-placed w b vs (view ns) f
   tests-placed Bridge vs ns f = tests-true
   tests-placed Window vs ns f = tests-true
-  tests-placed WindowTarget vs ns f = target-placed b vs (view ns) f
+  tests-placed WindowTarget vs ns f = target-placed w b vs (view ns) f
   tests-placed Xor vs ns f = tests-true
-  tests-placed Map vs ns f = map-placed b vs (view ns) f
+  tests-placed Map vs ns f = map-placed w b vs (view ns) f
 
 -- where a record is placed, the newest node with it is of its kind
-list-next : (k j : Kind) (least most n : ℕ) (f : Form) (us vs : List ℕ) (ns : List Node) → Follows (newestAs f (us ++ vs) ns) (kindNumber j)
-    → joined k vs (aList j least most n f us ns) .placed ≡ true → Follows (newest (joined k vs (aList j least most n f us ns) .nodes)) (kindNumber k)
+list-next : (w : Width) (k j : Kind) (least most n : ℕ) (f : Form) (us vs : List ℕ) (ns : List Node) → Follows w (newestAs f (us ++ vs) ns) (kindNumber j)
+    → joined k vs (aList j least most n f us ns) .placed ≡ true → Follows w (newest (joined k vs (aList j least most n f us ns) .nodes)) (kindNumber k)
 unfolding joined
-list-next k j least most n f us vs ns h e = by (eqb (kindNumber k) (kindNumber j)) refl e
+list-next w k j least most n f us vs ns h e = by (eqb (kindNumber k) (kindNumber j)) refl e
   where
     by : (x : Bool) → eqb (kindNumber k) (kindNumber j) ≡ x → pick x (changes [] (leb most n) (node f (us ++ vs)) ns) stray .placed ≡ true
-        → Follows (newest (pick x (changes [] (leb most n) (node f (us ++ vs)) ns) stray .nodes)) (kindNumber k)
+        → Follows w (newest (pick x (changes [] (leb most n) (node f (us ++ vs)) ns) stray .nodes)) (kindNumber k)
     by true q e = rw (eqb-true (kindNumber k) (kindNumber j) q) h
     by false q e = never e
 
-joined-next : (k : Kind) (vs : List ℕ) {ns : List Node} {x : Newest} → View ns x → joined k vs x .placed ≡ true → Follows (newest (joined k vs x .nodes)) (kindNumber k)
+joined-next : (w : Width) (k : Kind) (vs : List ℕ) {ns : List Node} {x : Newest} → View ns x → joined k vs x .placed ≡ true → Follows w (newest (joined k vs x .nodes)) (kindNumber k)
 unfolding joined
-joined-next k vs (seesProcessor {n} {us} {ns}) e = list-next k Resource 0 58 n (processor (suc n)) us vs ns (omega arith) e
-joined-next k vs seesMatrix e = never e
-joined-next k vs (seesSide {n} {us} {ns}) e = list-next k Handle 0 65535 n (side (suc n)) us vs ns (omega arith) e
-joined-next k vs (seesWindow {n} {us} {ns}) e = list-next k WindowTarget n n (length us - 7) (window n) us vs ns (omega arith) e
-joined-next k vs (seesXor {n} {us} {ns}) e = list-next k Map 0 255 n (xor (suc n)) us vs ns (omega arith) e
-joined-next k vs seesOther e = never e
+joined-next w k vs (seesProcessor {n} {us} {ns}) e = list-next w k Resource 0 58 n (processor (suc n)) us vs ns (omega arith) e
+joined-next w k vs seesMatrix e = never e
+joined-next w k vs (seesSide {n} {us} {ns}) e = list-next w k Handle 0 65535 n (side (suc n)) us vs ns (omega arith) e
+joined-next w k vs (seesWindow {n} {us} {ns}) e = list-next w k WindowTarget n n (length us - 7) (window n) us vs ns (omega arith) e
+joined-next w k vs (seesXor {n} {us} {ns}) e = list-next w k Map 0 255 n (xor (suc n)) us vs ns (omega arith) e
+joined-next w k vs seesOther e = never e
 
-setting-next : (tests : ℕ → ℕ → List Bool) (field : ℕ → ℕ → ℕ) (v : ℕ) (x : Newest) (b : ℕ) → (49 ≤ b) × (b ≤ 52) → setting tests field v x .placed ≡ true
-    → Follows (newest (setting tests field v x .nodes)) b
+-- settings that suit have indices as wide as the counts
+same-width : (o w : Width) → suits (sets o) w ≡ true → o ≡ w
+same-width byte byte e = refl
+same-width byte pair e = never e
+same-width pair byte e = never e
+same-width pair pair e = refl
+
+setting-next : (o w : Width) (tests : ℕ → ℕ → List Bool) (field : ℕ → ℕ → ℕ) (v : ℕ) (x : Newest) (n : ℕ) → n ≤ 3
+    → both (setting tests field v x .placed) (suits (sets o) w) ≡ true → Follows w (newest (setting tests field v x .nodes)) (matrixNumber o + n)
 unfolding setting
-setting-next tests field v (aList k least most n f us ns) b h e = never e
-setting-next tests field v (aMatrix i t us ns) b h e = h
-setting-next tests field v other b h e = never e
+setting-next o w tests field v (aList k least most m f us ns) n h e = never e
+setting-next o w tests field v (aMatrix i t us ns) n h e = rw (same-width o w e) (omega arith)
+setting-next o w tests field v other n h e = never e
 
-pub follows-next : (k : Kind) (vs : List ℕ) (ns : List Node) → step k vs ns .placed ≡ true → Follows (newest (added k vs ns)) (kindNumber k)
+pub follows-next : (w : Width) (k : Kind) (vs : List ℕ) (ns : List Node) → both (step k vs ns .placed) (suits (partIn k) w) ≡ true
+    → Follows (widthBehind (partIn k) w) (newest (added k vs ns)) (kindNumber k)
 unfolding step
-follows-next Processor vs ns e = omega arith
-follows-next Resource vs ns e = joined-next Resource vs (view ns) e
-follows-next Cache vs ns e = omega arith
-follows-next Memory vs ns e = omega arith
-follows-next Acpi vs ns e = omega arith
-follows-next Pci vs ns e = omega arith
-follows-next Rintc vs ns e = omega arith
-follows-next Domain vs ns e = omega arith
-follows-next Matrix vs ns e = omega arith
-follows-next Initiator vs ns e = setting-next _ _ _ (newest ns) 50 (omega arith) e
-follows-next Target vs ns e = setting-next _ _ _ (newest ns) 51 (omega arith) e
-follows-next Cell vs ns e = setting-next _ _ _ (newest ns) 52 (omega arith) e
-follows-next Side vs ns e = omega arith
-follows-next Handle vs ns e = joined-next Handle vs (view ns) e
-follows-next Bridge vs ns e = omega arith
-follows-next Window vs ns e = omega arith
-follows-next WindowTarget vs ns e = joined-next WindowTarget vs (view ns) e
-follows-next Xor vs ns e = omega arith
-follows-next Map vs ns e = joined-next Map vs (view ns) e
+follows-next w Processor vs ns e = omega arith
+follows-next w Resource vs ns e = joined-next w Resource vs (view ns) (both-true (step Resource vs ns .placed) true e .0)
+follows-next w Cache vs ns e = omega arith
+follows-next w Memory vs ns e = omega arith
+follows-next w Acpi vs ns e = omega arith
+follows-next w Pci vs ns e = omega arith
+follows-next w Rintc vs ns e = omega arith
+follows-next w Domain vs ns e = omega arith
+follows-next w (Matrix o) vs ns e = omega arith
+follows-next w (Initiator o) vs ns e = setting-next o w _ _ _ (newest ns) 1 (omega arith) e
+follows-next w (Target o) vs ns e = setting-next o w _ _ _ (newest ns) 2 (omega arith) e
+follows-next w (Cell o) vs ns e = setting-next o w _ _ _ (newest ns) 3 (omega arith) e
+follows-next w Side vs ns e = omega arith
+follows-next w Handle vs ns e = joined-next w Handle vs (view ns) (both-true (step Handle vs ns .placed) true e .0)
+follows-next w Bridge vs ns e = omega arith
+follows-next w Window vs ns e = omega arith
+follows-next w WindowTarget vs ns e = joined-next w WindowTarget vs (view ns) (both-true (step WindowTarget vs ns .placed) true e .0)
+follows-next w Xor vs ns e = omega arith
+follows-next w Map vs ns e = joined-next w Map vs (view ns) (both-true (step Map vs ns .placed) true e .0)
 
 -- ---- the record that made the newest node
 
@@ -271,10 +297,10 @@ since-madeAt Acpi vs ns p w e = made-since ns p w
 since-madeAt Pci vs ns p w e = made-since ns p w
 since-madeAt Rintc vs ns p w e = made-since ns p w
 since-madeAt Domain vs ns p w e = made-since ns p w
-since-madeAt Matrix vs ns p w e = made-since ns p w
-since-madeAt Initiator vs ns p w e = setting-since _ _ _ p w (view ns) e
-since-madeAt Target vs ns p w e = setting-since _ _ _ p w (view ns) e
-since-madeAt Cell vs ns p w e = setting-since _ _ _ p w (view ns) e
+since-madeAt (Matrix x) vs ns p w e = made-since ns p w
+since-madeAt (Initiator x) vs ns p w e = setting-since _ _ _ p w (view ns) e
+since-madeAt (Target x) vs ns p w e = setting-since _ _ _ p w (view ns) e
+since-madeAt (Cell x) vs ns p w e = setting-since _ _ _ p w (view ns) e
 since-madeAt Side vs ns p w e = made-since ns p w
 since-madeAt Handle vs ns p w e = joined-since Handle vs p w (view ns) e
 since-madeAt Bridge vs ns p w e = made-since ns p w
@@ -312,10 +338,10 @@ tests-ranged Acpi vs ns e = tests-rules acpi vs
 tests-ranged Pci vs ns e = tests-rules pci vs
 tests-ranged Rintc vs ns e = tests-rules rintc vs
 tests-ranged Domain vs ns e = tt
-tests-ranged Matrix vs ns e = tests-rules (matrix (at vs 4) (at vs 5)) vs
-tests-ranged Initiator vs ns e = setting-ranged _ _ _ (λ i t. (at vs 0 < i) ∷ []) (λ i t. (tests-ltb (at vs 0) i, tt)) (newest ns) e
-tests-ranged Target vs ns e = setting-ranged _ _ _ (λ i t. (at vs 0 < t) ∷ []) (λ i t. (tests-ltb (at vs 0) t, tt)) (newest ns) e
-tests-ranged Cell vs ns e =
+tests-ranged (Matrix w) vs ns e = tests-rules (matrix (at vs 4) (at vs 5)) vs
+tests-ranged (Initiator w) vs ns e = setting-ranged _ _ _ (λ i t. (at vs 0 < i) ∷ []) (λ i t. (tests-ltb (at vs 0) i, tt)) (newest ns) e
+tests-ranged (Target w) vs ns e = setting-ranged _ _ _ (λ i t. (at vs 0 < t) ∷ []) (λ i t. (tests-ltb (at vs 0) t, tt)) (newest ns) e
+tests-ranged (Cell w) vs ns e =
     setting-ranged _ _ _ (λ i t. (at vs 0 < i) ∷ (at vs 1 < t) ∷ []) (λ i t. (tests-ltb (at vs 0) i, (tests-ltb (at vs 1) t, tt))) (newest ns) e
 tests-ranged Side vs ns e = tests-rules (side 0) vs
 tests-ranged Handle vs ns e = rw (joined-ranged Handle vs (newest ns)) tt
@@ -336,10 +362,10 @@ few-ranged Acpi vs n = omega arith
 few-ranged Pci vs n = omega arith
 few-ranged Rintc vs n = omega arith
 few-ranged Domain vs n = omega arith
-few-ranged Matrix vs n = omega arith
-few-ranged Initiator vs n = omega arith
-few-ranged Target vs n = omega arith
-few-ranged Cell vs n = omega arith
+few-ranged (Matrix w) vs n = omega arith
+few-ranged (Initiator w) vs n = omega arith
+few-ranged (Target w) vs n = omega arith
+few-ranged (Cell w) vs n = omega arith
 few-ranged Side vs n = omega arith
 few-ranged Handle vs n = omega arith
 few-ranged Bridge vs n = omega arith
@@ -359,10 +385,10 @@ places-body Acpi = refl
 places-body Pci = refl
 places-body Rintc = refl
 places-body Domain = refl
-places-body Matrix = refl
-places-body Initiator = refl
-places-body Target = refl
-places-body Cell = refl
+places-body (Matrix w) = refl
+places-body (Initiator w) = refl
+places-body (Target w) = refl
+places-body (Cell w) = refl
 places-body Side = refl
 places-body Handle = refl
 places-body Bridge = refl
@@ -426,10 +452,10 @@ tests-full Acpi vs ns e = tests-no λ h. h
 tests-full Pci vs ns e = tests-no λ h. h
 tests-full Rintc vs ns e = tests-no λ h. h
 tests-full Domain vs ns e = tests-no λ h. h
-tests-full Matrix vs ns e = tests-no λ h. h
-tests-full Initiator vs ns e = rw setting-full (tests-no λ h. h)
-tests-full Target vs ns e = rw setting-full (tests-no λ h. h)
-tests-full Cell vs ns e = rw setting-full (tests-no λ h. h)
+tests-full (Matrix w) vs ns e = tests-no λ h. h
+tests-full (Initiator w) vs ns e = rw setting-full (tests-no λ h. h)
+tests-full (Target w) vs ns e = rw setting-full (tests-no λ h. h)
+tests-full (Cell w) vs ns e = rw setting-full (tests-no λ h. h)
 tests-full Side vs ns e = tests-no λ h. h
 tests-full Handle vs ns e = handle-full vs (view ns) e
 tests-full Bridge vs ns e = tests-no λ h. h
@@ -499,10 +525,10 @@ module _ (ok : List Node → ℕ → ℕ → Bool) (P : List Node → ℕ → �
   tests-refs Pci ns e = tests-true
   tests-refs Rintc ns e = tests-true
   tests-refs Domain ns e = tests-true
-  tests-refs Matrix ns e = tests-true
-  tests-refs Initiator ns e = tests-true
-  tests-refs Target ns e = tests-true
-  tests-refs Cell ns e = tests-true
+  tests-refs (Matrix w) ns e = tests-true
+  tests-refs (Initiator w) ns e = tests-true
+  tests-refs (Target w) ns e = tests-true
+  tests-refs (Cell w) ns e = tests-true
   tests-refs Side ns e = tests-true
   tests-refs Handle ns e = tests-true
   tests-refs Bridge ns e = tests-true
@@ -547,10 +573,13 @@ decided ns t b = ready-view (view ns) t b
 
 -- ---- all faults of a whole record
 
-module _ (t : Table) (b : ℕ) (ns : List Node) (k : Kind) (vs : List ℕ) (f : Follows (newest ns) b) where
+module _ (t : Table) (u : Width) (b : ℕ) (ns : List Node) (k : Kind) (vs : List ℕ) (f : Follows u (newest ns) b) where
+  placed : Bool
+  placed = both (step k vs ns .placed) (suits (partIn k) u)
+
   checks : List (Bool × ℕ)
   checks =
-      (not (step k vs ns .placed), 4)
+      (not placed, 4)
       ∷ (not (all (step k vs ns .ranges)), 5)
       ∷ (not (refsGood (isOrdinal (length (step k vs ns .earlier))) (body k) vs), 6)
       ∷ (not (refsGood (atOrdinal (starts t (step k vs ns .earlier))) (body k) vs), 10)
@@ -558,14 +587,14 @@ module _ (t : Table) (b : ℕ) (ns : List Node) (k : Kind) (vs : List ℕ) (f : 
       ∷ (ltb limit (front t + sizes (step k vs ns .nodes)), 8) ∷ []
 
   mirrored : Mirrors (recordFaults t b ns k vs) checks
-  unfolding checks
+  unfolding checks placed
   mirrored =
-      let m = tests-not (step k vs ns .placed) (tests-placed b k vs ns f) in (
+      let m = tests-not placed (tests-placed u b k vs ns f) in (
         omega arith,
         refl,
         m .right,
         λ e.
-            let p : step k vs ns .placed ≡ true = not-false (step k vs ns .placed) e in
+            let p = both-true (step k vs ns .placed) (suits (partIn k) u) (not-false placed e) .0 in
             let d = tests-not (all (step k vs ns .ranges)) (tests-every (step k vs ns .ranges) (Ranged k vs (newest ns)) (tests-ranged k vs ns p)) in
             let w = tests-not (refsGood (isOrdinal (length (step k vs ns .earlier))) (body k) vs) (tests-refs (λ ns. isOrdinal (length ns)) Backward tests-backward vs k ns p) in
             let r = tests-not (refsGood (atOrdinal (starts t (step k vs ns .earlier))) (body k) vs) (tests-refs (λ ns. atOrdinal (starts t ns)) Names (tests-names t) vs k ns p) in
@@ -574,24 +603,27 @@ module _ (t : Table) (b : ℕ) (ns : List Node) (k : Kind) (vs : List ℕ) (f : 
             (m .wrong e, (omega arith, refl, d .right, λ e. (d .wrong e, (omega arith, refl, w .right, λ e. (w .wrong e, (omega arith, refl, r .right, λ e. (r .wrong e, (omega arith, refl, l .right, λ e. (l .wrong e, (omega arith, refl, x .right, λ e. (x .wrong e, tt))))))))))),
       )
 
-  pub faultless : (fault t ns k vs ≡ 0) ↔ NoneOf (recordFaults t b ns k vs)
-  unfolding fault checks
+  pub faultless : (fault t u ns k vs ≡ 0) ↔ NoneOf (recordFaults t b ns k vs)
+  unfolding fault checks placed
   faultless = none-of (recordFaults t b ns k vs) checks mirrored
 
-  pub faulty : (n : ℕ) → 0 < n → (fault t ns k vs ≡ n) ↔ FirstOf n (recordFaults t b ns k vs)
-  unfolding fault checks
+  pub faulty : (n : ℕ) → 0 < n → (fault t u ns k vs ≡ n) ↔ FirstOf n (recordFaults t b ns k vs)
+  unfolding fault checks placed
   faulty n z = first-of (recordFaults t b ns k vs) checks mirrored n z
 
   -- ---- where
 
   -- a bad field is one of a record that stands where it may
   bad-placed : FirstOf 5 (recordFaults t b ns k vs) → (step k vs ns .placed ≡ true) × (all (step k vs ns .ranges) ≡ false)
-  bad-placed (a, d) = by (step k vs ns .placed) refl (all (step k vs ns .ranges)) refl
+  unfolding placed
+  bad-placed (a, d) = by placed refl (all (step k vs ns .ranges)) refl
     where
-      by : (x : Bool) → step k vs ns .placed ≡ x → (y : Bool) → all (step k vs ns .ranges) ≡ y → (x ≡ true) × (y ≡ false)
-      by false e y i = absurd (a (tests-placed b k vs ns f .wrong e))
-      by true e true i = absurd (d (tests-every (step k vs ns .ranges) (Ranged k vs (newest ns)) (tests-ranged k vs ns e) .right i))
-      by true e false i = (refl, refl)
+      by : (x : Bool) → both (step k vs ns .placed) (suits (partIn k) u) ≡ x → (y : Bool) → all (step k vs ns .ranges) ≡ y → (step k vs ns .placed ≡ true) × (y ≡ false)
+      by false e y i = absurd (a (tests-placed u b k vs ns f .wrong e))
+      by true e true i =
+          let p = both-true (step k vs ns .placed) (suits (partIn k) u) e .0 in
+          absurd (d (tests-every (step k vs ns .ranges) (Ranged k vs (newest ns)) (tests-ranged k vs ns p) .right i))
+      by true e false i = (both-true (step k vs ns .placed) (suits (partIn k) u) e .0, refl)
 
   -- of the first condition that does not hold, the field is the first bad one
   bad-at : step k vs ns .placed ≡ true → (j : ℕ) → FirstNot j (Ranged k vs (newest ns)) → badIn k (step k vs ns .ranges) ≡ at (places k) j

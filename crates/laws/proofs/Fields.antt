@@ -10,7 +10,7 @@ use lib.Dec.{eqb, leb}
 use borrow.Author.Tests.{eq-eqb, ne-eqb, le-leb, lt-leb, not-true, not-false}
 use Rattle.format.specs.Bytes.{pick, both, all, le, value, join, part}
 use Rattle.format.specs.Layout.{Item, fix, fld, two, to, orNone, wide, asIs, width, layWith, fieldsWith, fixedOk}
-use Rattle.format.specs.Form.{Form, layout, ranges}
+use Rattle.format.specs.Form.{Form, byte, pair, layout, ranges}
 use Rattle.format.specs.Node.{Node, node, bytes, nodeAt}
 use Rattle.format.specs.Kind.{Kind, Processor, Resource, Cache, Memory, Acpi, Pci, Rintc, Domain, Matrix, Initiator, Target, Cell, Side, Handle, Bridge, Window, WindowTarget, Xor, Map, kindNumber, body}
 use Rattle.format.specs.Normal.{call}
@@ -135,10 +135,14 @@ call-join k vs = rw (lay-join asIs (body k) vs) (by k)
     by Pci = refl
     by Rintc = refl
     by Domain = refl
-    by Matrix = refl
-    by Initiator = refl
-    by Target = refl
-    by Cell = refl
+    by (Matrix byte) = refl
+    by (Matrix pair) = refl
+    by (Initiator byte) = refl
+    by (Initiator pair) = refl
+    by (Target byte) = refl
+    by (Target pair) = refl
+    by (Cell byte) = refl
+    by (Cell pair) = refl
     by Side = refl
     by Handle = refl
     by Bridge = refl

@@ -9,12 +9,12 @@ use native.Mathlib.Nat.{pow-le-pow-right, zero-lt-suc, lt-of-lt-of-le}
 use lib.ListN.{length, take, drop, replicate, length-take}
 use lib.Seq.{drop-drop}
 use lib.Dec.{eqb, leb, ltb}
-use borrow.Author.Tests.{eqb-true, leb-true, ltb-true, not-false}
+use borrow.Author.Tests.{eqb-true, leb-true, ltb-true, not-true, not-false}
 use Rattle.format.specs.Bytes.{pick, all, Bytes, at, value, part}
 use Rattle.format.specs.Layout.{Item, fix, wide, asIs, arities, isFixed, width, fieldsWith, fields, fixedOk, refsGood}
 use Rattle.format.specs.Table.{Table, revision}
-use Rattle.format.specs.Form.{Form, processor, cache, memory, acpi, pci, rintc, oldRintc, domain, matrix, side, bridge, window, xor, size, typeOf, layout, registers, ways, ranges}
-use Rattle.format.specs.Row.{Row, processors, caches, memories, initiators, oldRintcs, rintcs, domains, matrices, sides, bridges, windows, xors, home, rowType, column, matches, rowOf, formIn, isRetired}
+use Rattle.format.specs.Form.{Form, processor, cache, memory, acpi, pci, rintc, oldRintc, domain, matrix, side, bridge, window, xor, size, typeOf, Width, byte, pair, most, upTo, narrowest, layout, registers, ways, ranges}
+use Rattle.format.specs.Row.{Row, processors, caches, memories, initiators, oldRintcs, rintcs, domains, matrices, sides, bridges, windows, xors, home, rowType, counted, column, matches, rowOf, formIn, isRetired}
 use Rattle.format.specs.Node.{Node, bytes, nodeAt, Entry, atPlace, atOrdinal, placeOf, ordinalOf}
 use Rattle.format.specs.Read.{sizeIn, sound, recordFault}
 use Rattle.laws.specs.Rename.{rename}
@@ -40,12 +40,22 @@ row-tests rev ty bs r e =
 
 -- ---- its form
 
-part-below : (bs : List ℕ) (p n : ℕ) → Bytes bs → value (part bs p n) < 256 ^ n
+pub part-below : (bs : List ℕ) (p n : ℕ) → Bytes bs → value (part bs p n) < 256 ^ n
 unfolding part
 part-below bs p n h =
     let c = take n (drop p bs) in
     let l : length c ≤ n = simp length-take (omega arith) in
     lt-of-lt-of-le (value-lt c (bytes-take n (drop p bs) (bytes-drop p bs h))) (pow-le-pow-right (zero-lt-suc 255) l)
+
+-- counts of a row are within their limits, and the width of their normal form is the row's
+pub counted-row : (w : Width) (i t : ℕ) → counted w i t ≡ true → (narrowest i t ≡ w) × ((i ≤ most) × (t ≤ most))
+counted-row byte i t e =
+    let p = both-true (leb i 255) (leb t 255) e in
+    (rw e, (omega (arith, leb-true i 255 (p .0)), omega (arith, leb-true t 255 (p .1))))
+counted-row pair i t e =
+    let p = both-true (not (upTo 255 i t)) (upTo most i t) e in
+    let q = both-true (leb i most) (leb t most) (p .1) in
+    (rw (not-true (upTo 255 i t) (p .0)), (leb-true i most (q .0), leb-true t most (q .1)))
 
 -- the form that is read in a record of a row is a form of that row, with its counts within their limits
 module _ (bs : List ℕ) (h : Bytes bs) where
@@ -76,11 +86,11 @@ module _ (bs : List ℕ) (h : Bytes bs) where
   row-form oldRintcs e u x = never (sym u)
   row-form rintcs e u x = (refl, tt)
   row-form domains e u x = (refl, tt)
-  row-form matrices e u x =
+  row-form (matrices w) e u x =
       let i = value (part bs 12 4) in
       let t = value (part bs 16 4) in
-      let p = both-true (leb i 255) (leb t 255) (both-true (leb 32 (length bs)) _ e .1) in
-      (refl, (leb-true i 255 (p .0), leb-true t 255 (p .1)))
+      let p = counted-row w i t (both-true (leb 32 (length bs)) (counted w i t) e .1) in
+      (ap matrices (p .0), p .1)
   row-form sides e u x = (refl, omega (arith, part-below bs 30 2 h))
   row-form bridges e u x = let v = value (part bs 8 4) in (refl, (rw (version-at (registers v)) (part-below bs 8 4 h), rw (version-at (registers v))))
   row-form windows e u x =

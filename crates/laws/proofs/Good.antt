@@ -12,7 +12,7 @@ use borrow.Author.Tests.{le-leb}
 use Rattle.format.specs.Bytes.{pick, all, find, Answer, given, at}
 use Rattle.format.specs.Layout.{arities, lay, fields, fixedOk, refsGood}
 use Rattle.format.specs.Table.{Table, revision, front, limit, least}
-use Rattle.format.specs.Form.{Form, processor, cache, memory, acpi, pci, rintc, oldRintc, domain, matrix, side, bridge, window, xor, size, typeOf, layout, ranges}
+use Rattle.format.specs.Form.{Form, processor, cache, memory, acpi, pci, rintc, oldRintc, domain, matrix, side, bridge, window, xor, size, typeOf, Width, byte, pair, narrowest, layout, ranges}
 use Rattle.format.specs.Row.{Row, processors, caches, memories, initiators, oldRintcs, rintcs, domains, matrices, sides, bridges, windows, xors, formIn, isRetired, knows, known, rowOf}
 use Rattle.format.specs.Node.{Node, bytes, nodeAt, Entry, entry, sizes, starts, atPlace, atOrdinal, placeOf, ordinalOf}
 use Rattle.format.specs.Build.{records}
@@ -81,7 +81,8 @@ knows-every initiators = refl
 knows-every oldRintcs = refl
 knows-every rintcs = refl
 knows-every domains = refl
-knows-every matrices = refl
+knows-every (matrices byte) = refl
+knows-every (matrices pair) = refl
 knows-every sides = refl
 knows-every bridges = refl
 knows-every windows = refl
@@ -97,7 +98,11 @@ row-fresh pci vs w = refl
 row-fresh oldRintc vs w = absurd w
 row-fresh rintc vs w = refl
 row-fresh domain vs w = refl
-row-fresh (matrix i t) vs w = refl
+row-fresh (matrix i t) vs w = by (narrowest i t)
+  where
+    by : (w : Width) → isRetired (some (matrices w)) ≡ false
+    by byte = refl
+    by pair = refl
 row-fresh (side n) vs w = refl
 row-fresh (bridge n) vs w = refl
 row-fresh (window n) vs w = refl

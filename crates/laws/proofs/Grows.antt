@@ -10,9 +10,9 @@ use borrow.Author.Tests.{leb-true, ltb-true, ltb-false, leb-false, not-false, le
 use Rattle.format.specs.Bytes.{both, all, find, at, pick}
 use Rattle.format.specs.Layout.{fld, to, arities, refsGood, Item, fix}
 use Rattle.format.specs.Table.{Table, pptt, srat, hmat, cedt, front, limit}
-use Rattle.format.specs.Form.{Form, processor, cache, memory, acpi, pci, rintc, oldRintc, domain, matrix, side, bridge, window, xor, typeOf, size, middle, layout, registers, ways, ranges}
+use Rattle.format.specs.Form.{Form, processor, cache, memory, acpi, pci, rintc, oldRintc, domain, matrix, side, bridge, window, xor, typeOf, size, Width, byte, pair, most, middle, layout, registers, ways, matrixFlags, ranges}
 use Rattle.format.specs.Node.{Node, node, Entry, sizes, starts, isOrdinal, atOrdinal}
-use Rattle.format.specs.Kind.{Kind, Processor, Resource, Cache, Memory, Acpi, Pci, Rintc, Domain, Matrix, Initiator, Target, Cell, Side, Handle, Bridge, Window, WindowTarget, Xor, Map, kindNumber, isKind, body}
+use Rattle.format.specs.Kind.{Kind, Processor, Resource, Cache, Memory, Acpi, Pci, Rintc, Domain, Matrix, Initiator, Target, Cell, Side, Handle, Bridge, Window, WindowTarget, Xor, Map, kindNumber, isKind, body, partIn, suits}
 use Rattle.format.specs.Recipe.{Newest, aList, aMatrix, other, newestAs, newest, joined, setting, unset, step, added, fault, lacking}
 use Rattle.laws.proofs.Finds.{never, none-first}
 use Rattle.laws.proofs.Lays.{Fit, both-true, fit-length}
@@ -33,21 +33,31 @@ pub record Passed (t : Table) (ns : List Node) (k : Kind) (vs : List ℕ) : Type
   pub room : step k vs ns .full ≡ false
   pub short : front t + sizes (added k vs ns) ≤ limit
 
-pub passed : (t : Table) (ns : List Node) (k : Kind) (vs : List ℕ) → fault t ns k vs ≡ 0 → Passed t ns k vs
+pub passed : (t : Table) (w : Width) (ns : List Node) (k : Kind) (vs : List ℕ) → fault t w ns k vs ≡ 0 → Passed t ns k vs
 unfolding fault
-passed t ns k vs h =
+passed t w ns k vs h =
     let s = step k vs ns in
     let good = refsGood (atOrdinal (starts t (s .earlier))) (body k) vs in
     let back = refsGood (isOrdinal (length (s .earlier))) (body k) vs in
     let n = front t + sizes (s .nodes) in
-    let (a, (b, (w, (c, (d, (e, end)))))) = none-first ((not (s .placed), 4) ∷ (not (all (s .ranges)), 5) ∷ (not back, 6) ∷ (not good, 10) ∷ (s .full, 7) ∷ (ltb limit n, 8) ∷ []) (search arith) h in
-    record { place = not-false (s .placed) a; field = not-false (all (s .ranges)) b; refs = not-false good c; room = d; short = ltb-false limit n e }
+    let (a, (b, (z, (c, (d, (e, end)))))) = none-first ((not (both (s .placed) (suits (partIn k) w)), 4) ∷ (not (all (s .ranges)), 5) ∷ (not back, 6) ∷ (not good, 10) ∷ (s .full, 7) ∷ (ltb limit n, 8) ∷ []) (search arith) h in
+    record { place = both-true (s .placed) (suits (partIn k) w) (not-false (both (s .placed) (suits (partIn k) w)) a) .0; field = not-false (all (s .ranges)) b; refs = not-false good c; room = d; short = ltb-false limit n e }
 
-pub no-fault : (t : Table) (ns : List Node) (k : Kind) (vs : List ℕ) → Passed t ns k vs → fault t ns k vs ≡ 0
+-- its indices are as wide as the newest matrix's counts
+pub suited : (t : Table) (w : Width) (ns : List Node) (k : Kind) (vs : List ℕ) → fault t w ns k vs ≡ 0 → suits (partIn k) w ≡ true
 unfolding fault
-no-fault t ns k vs p =
+suited t w ns k vs h =
+    let s = step k vs ns in
+    let good = refsGood (atOrdinal (starts t (s .earlier))) (body k) vs in
+    let back = refsGood (isOrdinal (length (s .earlier))) (body k) vs in
+    let (a, more) = none-first ((not (both (s .placed) (suits (partIn k) w)), 4) ∷ (not (all (s .ranges)), 5) ∷ (not back, 6) ∷ (not good, 10) ∷ (s .full, 7) ∷ (ltb limit (front t + sizes (s .nodes)), 8) ∷ []) (search arith) h in
+    both-true (s .placed) (suits (partIn k) w) (not-false (both (s .placed) (suits (partIn k) w)) a) .1
+
+pub no-fault : (t : Table) (w : Width) (ns : List Node) (k : Kind) (vs : List ℕ) → suits (partIn k) w ≡ true → Passed t ns k vs → fault t w ns k vs ≡ 0
+unfolding fault
+no-fault t w ns k vs u p =
     let back = refs-backward t (step k vs ns .earlier) (body k) vs (p .refs) in
-    rw (p .place, p .field, back, p .refs, p .room, le-ltb limit (front t + sizes (added k vs ns)) (p .short))
+    rw (p .place, u, p .field, back, p .refs, p .room, le-ltb limit (front t + sizes (added k vs ns)) (p .short))
 
 -- ---- the newest node
 
@@ -151,17 +161,19 @@ new-pci es (a ∷ b ∷ c ∷ d ∷ e ∷ x ∷ vs) l f r =
     let k : e ≤ 7 = leb-true e 7 (q .0) in
     record { own = refl; within = tt; fit = (fix-fit (omega arith), (fix-fit (omega arith), (fix-fit (omega arith), (fix-fit (omega arith), (f .0, (f .1 .0, (f .1 .1 .0, (record { there = omega arith; below = omega arith; low = omega arith }, (fix-fit (omega arith), (wider (omega arith) (f .1 .1 .1 .1 .1 .0), (fix-fit (omega arith), f .1 .1 .1 .1 .1 .1))))))))))); ruled = r; refs = refl }
 
-new-matrix : (es : List Entry) (vs : List ℕ) → length vs ≡ 6 → Fit (body Matrix) vs → all (ranges (matrix (at vs 4) (at vs 5)) vs) ≡ true → GoodNode hmat es (node (matrix (at vs 4) (at vs 5)) (unset (at vs 4) (at vs 5) vs))
+new-matrix : (w : Width) (es : List Entry) (vs : List ℕ) → length vs ≡ 6 → Fit (body (Matrix w)) vs → all (ranges (matrix (at vs 4) (at vs 5)) vs) ≡ true → GoodNode hmat es (node (matrix (at vs 4) (at vs 5)) (unset (at vs 4) (at vs 5) vs))
 unfolding body layout ranges refsGood unset
-new-matrix es [] l f r = absurd (omega arith)
-new-matrix es (a ∷ []) l f r = absurd (omega arith)
-new-matrix es (a ∷ b ∷ []) l f r = absurd (omega arith)
-new-matrix es (a ∷ b ∷ c ∷ []) l f r = absurd (omega arith)
-new-matrix es (a ∷ b ∷ c ∷ d ∷ []) l f r = absurd (omega arith)
-new-matrix es (a ∷ b ∷ c ∷ d ∷ i ∷ []) l f r = absurd (omega arith)
-new-matrix es (a ∷ b ∷ c ∷ d ∷ i ∷ t ∷ vs) l f r =
-    let wi : i ≤ 255 = omega (arith, f .1 .1 .1 .1 .0 .below) in
-    let wt : t ≤ 255 = omega (arith, f .1 .1 .1 .1 .1 .0 .below) in
+new-matrix w es [] l f r = absurd (omega arith)
+new-matrix w es (a ∷ []) l f r = absurd (omega arith)
+new-matrix w es (a ∷ b ∷ []) l f r = absurd (omega arith)
+new-matrix w es (a ∷ b ∷ c ∷ []) l f r = absurd (omega arith)
+new-matrix w es (a ∷ b ∷ c ∷ d ∷ []) l f r = absurd (omega arith)
+new-matrix w es (a ∷ b ∷ c ∷ d ∷ i ∷ []) l f r = absurd (omega arith)
+new-matrix w es (a ∷ b ∷ c ∷ d ∷ i ∷ t ∷ vs) l f r =
+    let p = both-true (matrixFlags a) _ r .1 in
+    let q = both-true (leb i most) (leb t most) (both-true (leb c 11) _ (both-true (leb b 5) _ p .1) .1) in
+    let wi : i ≤ most = leb-true i most (q .0) in
+    let wt : t ≤ most = leb-true t most (q .1) in
     record {
       own = refl;
       within = (wi, wt);
@@ -399,10 +411,10 @@ kindHome Acpi = srat
 kindHome Pci = srat
 kindHome Rintc = srat
 kindHome Domain = hmat
-kindHome Matrix = hmat
-kindHome Initiator = hmat
-kindHome Target = hmat
-kindHome Cell = hmat
+kindHome (Matrix w) = hmat
+kindHome (Initiator w) = hmat
+kindHome (Target w) = hmat
+kindHome (Cell w) = hmat
 kindHome Side = hmat
 kindHome Handle = hmat
 kindHome Bridge = cedt
@@ -413,7 +425,7 @@ kindHome Map = cedt
 
 -- the kind of a number, whatever its table
 numbered : ℕ → Option Kind
-numbered b = find (λ k. eqb b (kindNumber k)) (Processor ∷ Resource ∷ Cache ∷ Memory ∷ Acpi ∷ Pci ∷ Rintc ∷ Domain ∷ Matrix ∷ Initiator ∷ Target ∷ Cell ∷ Side ∷ Handle ∷ Bridge ∷ Window ∷ WindowTarget ∷ Xor ∷ Map ∷ [])
+numbered b = find (λ k. eqb b (kindNumber k)) (Processor ∷ Resource ∷ Cache ∷ Memory ∷ Acpi ∷ Pci ∷ Rintc ∷ Domain ∷ Matrix byte ∷ Initiator byte ∷ Target byte ∷ Cell byte ∷ Side ∷ Handle ∷ Matrix pair ∷ Initiator pair ∷ Target pair ∷ Cell pair ∷ Bridge ∷ Window ∷ WindowTarget ∷ Xor ∷ Map ∷ [])
 
 number-back : (k : Kind) → numbered (kindNumber k) ≡ some k
 unfolding numbered
@@ -425,10 +437,14 @@ number-back Acpi = refl
 number-back Pci = refl
 number-back Rintc = refl
 number-back Domain = refl
-number-back Matrix = refl
-number-back Initiator = refl
-number-back Target = refl
-number-back Cell = refl
+number-back (Matrix byte) = refl
+number-back (Matrix pair) = refl
+number-back (Initiator byte) = refl
+number-back (Initiator pair) = refl
+number-back (Target byte) = refl
+number-back (Target pair) = refl
+number-back (Cell byte) = refl
+number-back (Cell pair) = refl
 number-back Side = refl
 number-back Handle = refl
 number-back Bridge = refl
@@ -504,8 +520,8 @@ join-setting tests field v sets (seesMatrix {i} {t} {us} {ns}) p r g = (sets (st
 join-setting tests field v sets seesSide p r g = never p
 join-setting tests field v sets seesOther p r g = never p
 
-module _ (vs : List ℕ) (ns : List Node) where
-  grows-initiator : Fit (body Initiator) vs → Passed hmat ns Initiator vs → Good hmat ns → Good hmat (added Initiator vs ns)
+module _ (w : Width) (vs : List ℕ) (ns : List Node) where
+  grows-initiator : Fit (body (Initiator w)) vs → Passed hmat ns (Initiator w) vs → Good hmat ns → Good hmat (added (Initiator w) vs ns)
   unfolding step body
   grows-initiator f p g =
       let b : at vs 1 < 256 ^ 4 = rw (second vs) (f .1 .0 .below) in
@@ -513,7 +529,7 @@ module _ (vs : List ℕ) (ns : List Node) where
       (λ es i t us h r. let l : at vs 0 < i = ltb-true (at vs 0) i r in set-value es i t us h (at vs 0) (at vs 1) (omega arith) b)
       (view ns) (p .place) (p .field) g
 
-  grows-target : Fit (body Target) vs → Passed hmat ns Target vs → Good hmat ns → Good hmat (added Target vs ns)
+  grows-target : Fit (body (Target w)) vs → Passed hmat ns (Target w) vs → Good hmat ns → Good hmat (added (Target w) vs ns)
   unfolding step body
   grows-target f p g =
       let b : at vs 1 < 256 ^ 4 = rw (second vs) (f .1 .0 .below) in
@@ -521,7 +537,7 @@ module _ (vs : List ℕ) (ns : List Node) where
       (λ es i t us h r. set-target es i t us h (at vs 0) (at vs 1) (ltb-true (at vs 0) t r) b)
       (view ns) (p .place) (p .field) g
 
-  grows-cell : Fit (body Cell) vs → Passed hmat ns Cell vs → Good hmat ns → Good hmat (added Cell vs ns)
+  grows-cell : Fit (body (Cell w)) vs → Passed hmat ns (Cell w) vs → Good hmat ns → Good hmat (added (Cell w) vs ns)
   unfolding step body
   grows-cell f p g =
       let b : at vs 2 < 256 ^ 2 = rw (third vs) (f .1 .1 .0 .below) in
@@ -540,10 +556,10 @@ grows-good Acpi vs ns f p g = inl (new-acpi (starts srat ns) vs f (p .field), g)
 grows-good Pci vs ns f p g = inl (new-pci (starts srat ns) vs (fit-length (body Pci) vs f) f (p .field), g)
 grows-good Rintc vs ns f p g = inl (new-rintc (starts srat ns) vs f (p .field), g)
 grows-good Domain vs ns f p g = inl (new-domain (starts hmat ns) vs f, g)
-grows-good Matrix vs ns f p g = inl (new-matrix (starts hmat ns) vs (fit-length (body Matrix) vs f) f (p .field), g)
-grows-good Initiator vs ns f p g = inl (grows-initiator vs ns f p g)
-grows-good Target vs ns f p g = inl (grows-target vs ns f p g)
-grows-good Cell vs ns f p g = inl (grows-cell vs ns f p g)
+grows-good (Matrix w) vs ns f p g = inl (new-matrix w (starts hmat ns) vs (fit-length (body (Matrix w)) vs f) f (p .field), g)
+grows-good (Initiator w) vs ns f p g = inl (grows-initiator w vs ns f p g)
+grows-good (Target w) vs ns f p g = inl (grows-target w vs ns f p g)
+grows-good (Cell w) vs ns f p g = inl (grows-cell w vs ns f p g)
 grows-good Side vs ns f p g = inl (new-side (starts hmat ns) vs f (p .field), g)
 grows-good Handle vs ns f p g = inl (join-handle vs (view ns) (p .place) (p .room) f g)
 grows-good Bridge vs ns f p g = inl (new-bridge (starts cedt ns) vs f (p .field), g)

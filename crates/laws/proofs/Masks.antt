@@ -2,19 +2,20 @@
 use mathlib.Core.Path.{_≡_, refl, sym, ap, _∙_}
 use mathlib.Core.Logic.{_↔_}
 use Prim.Native.Nat.{ℕ, _≤_}
-use mathlib.Core.List.{List, [], _∷_, map}
-use mathlib.Core.Bool.{Bool, true, false}
+use mathlib.Core.List.{List, [], _∷_, _++_, map}
+use mathlib.Core.Bool.{Bool, true, false, not}
 use mathlib.Core.Option.{Option, none, some, Option·map}
 use native.Mathlib.Omega.{arith}
 use lib.ListN.{length, getElem?, length-map}
-use lib.Dec.{eqb}
-use borrow.Author.Tests.{eqb-true}
-use Rattle.format.specs.Bytes.{pick, both, find, at, refused, given, andThen, orRefused}
+use lib.Dec.{eqb, leb}
+use borrow.Author.Tests.{eqb-true, not-true}
+use Rattle.format.specs.Bytes.{pick, both, find, at, value, part, refused, given, andThen, orRefused}
 use Rattle.format.specs.Table.{Table, pptt, srat, hmat, cedt, revision}
-use Rattle.format.specs.Row.{Row, processors, caches, memories, initiators, oldRintcs, rintcs, domains, matrices, sides, bridges, windows, xors, rows, home, rowType, column, matches, rowOf, knows, known}
+use Rattle.format.specs.Form.{byte, pair, most, upTo}
+use Rattle.format.specs.Row.{Row, processors, caches, memories, initiators, oldRintcs, rintcs, domains, matrices, sides, bridges, windows, xors, rowNumber, rows, home, rowType, column, matches, rowOf, knows, known}
 use Rattle.format.specs.Node.{Entry, atPlace}
 use Rattle.format.specs.Read.{headFault, judgeHead, typeIn, Frames, ended, badFrame, framedAt, recordFault, Seen, seenAs, entryOf, walk, walked, accept, Reading, fieldsOf, chosen, readingOf, read}
-use Rattle.laws.specs.Demand3.{More, limited, ifKnown, dimmed, Fits, Exact}
+use Rattle.laws.specs.Demand3.{More, OwnBits, limited, ifKnown, dimmed, Fits, Exact}
 use Rattle.laws.proofs.Lays.{both-true}
 use Rattle.laws.proofs.Finds.{All, found-test, found-in, found-closer, at-map, then-given, unless-given, UpTo, upto, then-refused}
 
@@ -25,6 +26,15 @@ short-not : (bs : List ℕ) → column rintcs bs ≡ true → column oldRintcs b
 unfolding column
 short-not bs e = rw (eqb-true (length bs) 20 e)
 
+-- a matrix with a count above 255 is none of those without
+wide-not : (bs : List ℕ) → column (matrices pair) bs ≡ true → column (matrices byte) bs ≡ false
+unfolding column
+wide-not bs e =
+    let p = both-true (leb 32 (length bs)) _ e in
+    let i : ℕ = value (part bs 12 4) in
+    let t : ℕ = value (part bs 16 4) in
+    rw (p .0, not-true (upTo 255 i t) (both-true (not (upTo 255 i t)) (upTo most i t) (p .1) .0))
+
 -- rows of one table are told apart by their type, and those of one type by their Length column
 by-type : (bs : List ℕ) (r : Row) → column r bs ≡ true → find (λ q. both (eqb (rowType r) (rowType q)) (column q bs)) (rows (home r)) ≡ some r
 by-type bs processors e = rw e
@@ -33,7 +43,8 @@ by-type bs memories e = rw e
 by-type bs initiators e = rw e
 by-type bs oldRintcs e = rw e
 by-type bs domains e = rw e
-by-type bs matrices e = rw e
+by-type bs (matrices byte) e = rw e
+by-type bs (matrices pair) e = rw (wide-not bs e, e)
 by-type bs sides e = rw e
 by-type bs bridges e = rw e
 by-type bs windows e = rw e
@@ -43,7 +54,7 @@ by-type bs rintcs e = rw (short-not bs e, e)
 all-home : (t : Table) → All (λ r. home r ≡ t) (rows t)
 all-home pptt = (refl, (refl, tt))
 all-home srat = (refl, (refl, (refl, (refl, tt))))
-all-home hmat = (refl, (refl, (refl, tt)))
+all-home hmat = (refl, (refl, (refl, (refl, tt))))
 all-home cedt = (refl, (refl, (refl, tt)))
 
 module _ (rev ty : ℕ) (bs : List ℕ) where
@@ -69,6 +80,31 @@ module _ (rev ty : ℕ) (bs : List ℕ) where
 
   pub row-fits : (t : Table) (r : Row) → (rowOf t rev ty bs ≡ some r) ↔ Fits t rev ty bs r
   row-fits t r = (λ e. (row-home t r e, row-then t r e), λ f. rw (f .0) at (row-when r (f .1)))
+
+-- ---- each row has its own bit
+
+-- the row of a number
+numbered : ℕ → Option Row
+numbered n = find (λ r. eqb n (rowNumber r)) (rows pptt ++ (rows srat ++ (rows hmat ++ rows cedt)))
+
+number-back : (r : Row) → numbered (rowNumber r) ≡ some r
+unfolding numbered
+number-back processors = refl
+number-back caches = refl
+number-back memories = refl
+number-back initiators = refl
+number-back oldRintcs = refl
+number-back rintcs = refl
+number-back domains = refl
+number-back (matrices byte) = refl
+number-back (matrices pair) = refl
+number-back sides = refl
+number-back bridges = refl
+number-back windows = refl
+number-back xors = refl
+
+pub own-bits : OwnBits
+own-bits r q e = let i : some r ≡ some q = sym (number-back r) ∙ (ap numbered e ∙ number-back q) in cc
 
 -- ---- unknown exactly when
 

@@ -11,6 +11,7 @@ use lib.Dec.{eqb, ltb}
 use borrow.Author.Tests.{eqb-true, eqb-false, eq-eqb, ne-eqb, le-ltb, lt-ltb, ltb-true, ltb-false}
 use Rattle.format.specs.Bytes.{pick, find, Answer, refused, given, andThen, orRefused, unlessFound, at, part}
 use Rattle.format.specs.Table.{Table, revision}
+use Rattle.format.specs.Form.{byte, pair}
 use Rattle.format.specs.Row.{Row, processors, caches, memories, initiators, oldRintcs, rintcs, domains, matrices, sides, bridges, windows, xors, rowNumber, formIn, isRetired}
 use Rattle.format.specs.Node.{Node, nodeAt, Entry, ordinalOf}
 use Rattle.format.specs.Recipe.{Meaning, means}
@@ -36,7 +37,8 @@ row-number memories e = absurd (omega arith)
 row-number initiators e = absurd (omega arith)
 row-number oldRintcs e = refl
 row-number domains e = absurd (omega arith)
-row-number matrices e = absurd (omega arith)
+row-number (matrices byte) e = absurd (omega arith)
+row-number (matrices pair) e = absurd (omega arith)
 row-number sides e = absurd (omega arith)
 row-number bridges e = absurd (omega arith)
 row-number windows e = absurd (omega arith)

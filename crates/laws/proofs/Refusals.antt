@@ -14,7 +14,8 @@ use Rattle.format.specs.Bytes.{pick, firstOf, Answer, refused, given, andThen, 
 use Rattle.format.specs.Layout.{width}
 use Rattle.format.specs.Table.{Table, pptt, srat, hmat, cedt, tables, code, Head, headOf}
 use Rattle.format.specs.Node.{Node}
-use Rattle.format.specs.Kind.{Kind, WindowTarget, kindOf, noKind, body}
+use Rattle.format.specs.Form.{Width, byte}
+use Rattle.format.specs.Kind.{Kind, WindowTarget, kindOf, noKind, body, partIn, widthBehind}
 use Rattle.format.specs.Recipe.{Calls, done, badKind, cutOff, called, cutAs, skip, cut, newest, added, fault, lacking, Meaning, means, run, tableOf, headed, meaning}
 use Rattle.format.specs.Build.{lengthOf, fitting, build}
 use Rattle.laws.specs.Words.{FirstOf, NoneOf}
@@ -22,7 +23,7 @@ use Rattle.laws.specs.Demand1.{Belongs, joins, madeAt, Lacks, Ready, hea
 use Rattle.laws.proofs.Finds.{found-test}
 use Rattle.laws.proofs.Calls.{cut-skip}
 use Rattle.laws.proofs.Settings.{table-back}
-use Rattle.laws.proofs.Grows.{passed}
+use Rattle.laws.proofs.Grows.{passed, suited}
 use Rattle.laws.proofs.Words.{found-none, first-one, first-none, Numbers, first-in}
 use Rattle.laws.proofs.Faults.{kind-then, no-kind, bad-none, retired-none, kind-is, Follows, follows-next, since-madeAt, decided, faultless, faulty, fault-where, fault-place}
 
@@ -85,13 +86,20 @@ past-none t r p l = rw (List·getD-eq-default r 0 l) (by t)
 
 -- ---- the records before a place
 
+-- how wide the newest matrix's counts are written
+reach-width : {t : Table} {r : List ℕ} {q w p : ℕ} {ns : List Node} → Reaches t r q w ns p → Width
+reach-width start = byte
+reach-width (next x y k o n) = widthBehind (partIn k) (reach-width x)
+
 module _ (t : Table) (r : List ℕ) (hd : Headed t r) where
-  reach-follows : {q w p : ℕ} {ns : List Node} → Reaches t r q w ns p → Follows (newest ns) (at r q)
+  reach-follows : {q w p : ℕ} {ns : List Node} (x : Reaches t r q w ns p) → Follows (reach-width x) (newest ns) (at r q)
+  unfolding reach-width
   reach-follows start = rw (hd .0) (omega arith)
   reach-follows (next {q} {w} {p} {ns} x y k o n) =
       let vs = fieldsAt r p k in
-      let z = faultless t (at r q) ns k vs (reach-follows x) .1 (n .1) in
-      rw (o .1) (follows-next k vs ns (passed t ns k vs z .place))
+      let u = reach-width x in
+      let z = faultless t u (at r q) ns k vs (reach-follows x) .1 (n .1) in
+      rw (o .1) (follows-next u k vs ns (rw (passed t u ns k vs z .place, suited t u ns k vs z)))
 
   reach-within : {q w p : ℕ} {ns : List Node} → Reaches t r q w ns p → p ≤ length r
   reach-within start = hd .1
@@ -114,15 +122,15 @@ module _ (h : Head) (r : List ℕ) (hd : Headed (h .table) r) where
   -- ---- one record more
 
   -- what stands at p, if anything, comes too early
-  run-early : (w : ℕ) (ns : List Node) (p : ℕ) → lacking (newest ns) (kindOf (h .table) (at r p)) ≡ 11 → run h w ns (rest (h .table) r p) ≡ refused 11 w
+  run-early : (w : ℕ) (u : Width) (ns : List Node) (p : ℕ) → lacking (newest ns) (kindOf (h .table) (at r p)) ≡ 11 → run h w u ns (rest (h .table) r p) ≡ refused 11 w
   unfolding run cutAs
-  run-early w ns p e = by (ltb p (length r)) refl (kindOf (h .table) (at r p)) refl
+  run-early w u ns p e = by (ltb p (length r)) refl (kindOf (h .table) (at r p)) refl
     where
-      cut-or-called : (k : Kind) (cs : Calls) (x : Bool) → lacking (newest ns) (some k) ≡ 11 → run h w ns (pick x (cutOff p k) (called p k (fieldsAt r p k) cs)) ≡ refused 11 w
+      cut-or-called : (k : Kind) (cs : Calls) (x : Bool) → lacking (newest ns) (some k) ≡ 11 → run h w u ns (pick x (cutOff p k) (called p k (fieldsAt r p k) cs)) ≡ refused 11 w
       cut-or-called k cs true e = rw e
       cut-or-called k cs false e = rw e
 
-      by : (x : Bool) → ltb p (length r) ≡ x → (o : Option Kind) → kindOf (h .table) (at r p) ≡ o → run h w ns (rest (h .table) r p) ≡ refused 11 w
+      by : (x : Bool) → ltb p (length r) ≡ x → (o : Option Kind) → kindOf (h .table) (at r p) ≡ o → run h w u ns (rest (h .table) r p) ≡ refused 11 w
       by false q o i =
           let l = ltb-false p (length r) q in
           let z : lacking (newest ns) none ≡ 11 = rw (past-none (h .table) r p l) at e in
@@ -142,7 +150,7 @@ module _ (h : Head) (r : List ℕ) (hd : Headed (h .table) r) where
   not-ready ns p n = ⊎-elim (λ d. absurd (n (d .1))) (λ d. d .0) (decided ns (h .table) (at r p))
 
   module _ (q w p : ℕ) (ns : List Node) (x : Reaches (h .table) r q w ns p) (y : Ready (h .table) r ns p) where
-    run-bad : p < length r → kindOf (h .table) (at r p) ≡ none → run h w ns (rest (h .table) r p) ≡ refused (noKind (h .table) (at r p)) p
+    run-bad : p < length r → kindOf (h .table) (at r p) ≡ none → run h w (reach-width x) ns (rest (h .table) r p) ≡ refused (noKind (h .table) (at r p)) p
     unfolding run
     run-bad l e = rw (rest-bad (h .table) r p l e, rw e at (ready-none ns p y))
 
@@ -150,37 +158,37 @@ module _ (h : Head) (r : List ℕ) (hd : Headed (h .table) r) where
       l : p < length r
       l = is-here (h .table) r p (o .0)
 
-      f : Follows (newest ns) (at r q)
+      f : Follows (reach-width x) (newest ns) (at r q)
       f = reach-follows (h .table) r hd x
 
       free : lacking (newest ns) (some k) ≡ 0
       free = rw (kind-is (h .table) (at r p) k o) at (ready-none ns p y)
 
       run-good : NoneOf (faults (h .table) r q ns p k)
-          → run h w ns (rest (h .table) r p) ≡ run h (madeAt (joins k) p w) (added k (fieldsAt r p k) ns) (rest (h .table) r (endOf p k))
+          → run h w (reach-width x) ns (rest (h .table) r p) ≡ run h (madeAt (joins k) p w) (widthBehind (partIn k) (reach-width x)) (added k (fieldsAt r p k) ns) (rest (h .table) r (endOf p k))
       unfolding run rest
       run-good n =
-          let z = faultless (h .table) (at r q) ns k (fieldsAt r p k) f .1 (n .1) in
-          let m = since-madeAt k (fieldsAt r p k) ns p w (passed (h .table) ns k (fieldsAt r p k) z .place) in
-          ap (run h w ns) (rest-whole (h .table) r p k o l (n .0)) ∙ rw (free, z, m)
+          let z = faultless (h .table) (reach-width x) (at r q) ns k (fieldsAt r p k) f .1 (n .1) in
+          let m = since-madeAt k (fieldsAt r p k) ns p w (passed (h .table) (reach-width x) ns k (fieldsAt r p k) z .place) in
+          ap (run h w (reach-width x) ns) (rest-whole (h .table) r p k o l (n .0)) ∙ rw (free, z, m)
 
-      run-cut : length r < endOf p k → run h w ns (rest (h .table) r p) ≡ refused 3 p
+      run-cut : length r < endOf p k → run h w (reach-width x) ns (rest (h .table) r p) ≡ refused 3 p
       unfolding run
       run-cut c = rw (rest-cut (h .table) r p k o l c, free)
 
       run-whole : (m place : ℕ) → (length r < endOf p k → ⊥) → FirstOf m (recordFaults (h .table) (at r q) ns k (fieldsAt r p k)) → Where m ns k (fieldsAt r p k) p place
-          → run h w ns (rest (h .table) r p) ≡ refused m place
+          → run h w (reach-width x) ns (rest (h .table) r p) ≡ refused m place
       unfolding run rest
       run-whole m place c d u =
           let z : 0 < m = first-in (λ n. 0 < n) (recordFaults (h .table) (at r q) ns k (fieldsAt r p k)) m d (omega arith) in
-          let e : fault (h .table) ns k (fieldsAt r p k) ≡ m = faulty (h .table) (at r q) ns k (fieldsAt r p k) f m z .1 d in
-          ap (run h w ns) (rest-whole (h .table) r p k o l c) ∙ rw (free, e, ne-eqb m 0 (λ i. omega arith), fault-place (h .table) (at r q) ns k (fieldsAt r p k) f m p place d u)
+          let e : fault (h .table) (reach-width x) ns k (fieldsAt r p k) ≡ m = faulty (h .table) (reach-width x) (at r q) ns k (fieldsAt r p k) f m z .1 d in
+          ap (run h w (reach-width x) ns) (rest-whole (h .table) r p k o l c) ∙ rw (free, e, ne-eqb m 0 (λ i. omega arith), fault-place (h .table) (reach-width x) (at r q) ns k (fieldsAt r p k) f m p place d u)
 
-      run-faulty : (m place : ℕ) → FirstOf m (faults (h .table) r q ns p k) → Where m ns k (fieldsAt r p k) p place → run h w ns (rest (h .table) r p) ≡ refused m place
+      run-faulty : (m place : ℕ) → FirstOf m (faults (h .table) r q ns p k) → Where m ns k (fieldsAt r p k) p place → run h w (reach-width x) ns (rest (h .table) r p) ≡ refused m place
       run-faulty m place d u = by (eqb m 3) refl d
         where
           by : (c : Bool) → eqb m 3 ≡ c → pick c (length r < endOf p k) ((length r < endOf p k → ⊥) × FirstOf m (recordFaults (h .table) (at r q) ns k (fieldsAt r p k)))
-              → run h w ns (rest (h .table) r p) ≡ refused m place
+              → run h w (reach-width x) ns (rest (h .table) r p) ≡ refused m place
           by true e d =
               let i = eqb-true m 3 e in
               let z : place ≡ p = rw i at u in
@@ -188,18 +196,19 @@ module _ (h : Head) (r : List ℕ) (hd : Headed (h .table) r) where
           by false e d = run-whole m place (d .0) (d .1) u
 
   -- good records are passed
-  reach-run : {q w p : ℕ} {ns : List Node} → Reaches (h .table) r q w ns p → run h 0 [] (rest (h .table) r 28) ≡ run h w ns (rest (h .table) r p)
+  reach-run : {q w p : ℕ} {ns : List Node} (x : Reaches (h .table) r q w ns p) → run h 0 byte [] (rest (h .table) r 28) ≡ run h w (reach-width x) ns (rest (h .table) r p)
+  unfolding reach-width
   reach-run start = refl
   reach-run (next {q} {w} {p} {ns} x y k o n) = reach-run x ∙ run-good q w p ns x y k o n
 
   -- ---- what comes of the records from p on
 
   module _ (q w p : ℕ) (ns : List Node) (x : Reaches (h .table) r q w ns p) where
-    at-early : (Ready (h .table) r ns p → ⊥) → Outcome h r (run h w ns (rest (h .table) r p))
-    at-early n = rw (run-early w ns p (not-ready ns p n)) (inr (inr (refl, (h .table, q, ns, p, hd, x, n))))
+    at-early : (Ready (h .table) r ns p → ⊥) → Outcome h r (run h w (reach-width x) ns (rest (h .table) r p))
+    at-early n = rw (run-early w (reach-width x) ns p (not-ready ns p n)) (inr (inr (refl, (h .table, q, ns, p, hd, x, n))))
 
     module _ (y : Ready (h .table) r ns p) where
-      at-end : length r ≤ p → Outcome h r (run h w ns (rest (h .table) r p))
+      at-end : length r ≤ p → Outcome h r (run h w (reach-width x) ns (rest (h .table) r p))
       unfolding run
       at-end l =
           let e : p ≡ length r = omega (arith, reach-within (h .table) r hd x) in
@@ -212,33 +221,33 @@ module _ (h : Head) (r : List ℕ) (hd : Headed (h .table) r) where
         here = record { head = hd; reached = x; here = l; ready = y }
 
         at-record : (k : Kind) → OfKind (h .table) (at r p) k → (n place : ℕ) → FirstOf n (faults (h .table) r q ns p k) → Where n ns k (fieldsAt r p k) p place
-            → Outcome h r (run h w ns (rest (h .table) r p))
+            → Outcome h r (run h w (reach-width x) ns (rest (h .table) r p))
         at-record k o n place d u = rw (run-faulty q w p ns x y k o n place d u) (inr (inl (h .table, q, w, ns, p, k, here, o, d, u)))
 
         -- a whole record has a first fault, or none
         at-whole : (k : Kind) → OfKind (h .table) (at r p) k → (length r < endOf p k → ⊥)
-            → (NoneOf (faults (h .table) r q ns p k) → Outcome h r (run h w ns (rest (h .table) r p))) → Outcome h r (run h w ns (rest (h .table) r p))
+            → (NoneOf (faults (h .table) r q ns p k) → Outcome h r (run h w (reach-width x) ns (rest (h .table) r p))) → Outcome h r (run h w (reach-width x) ns (rest (h .table) r p))
         at-whole k o c good = by (eqb n 0) refl
           where
             n : ℕ
-            n = fault (h .table) ns k (fieldsAt r p k)
+            n = fault (h .table) (reach-width x) ns k (fieldsAt r p k)
 
-            f : Follows (newest ns) (at r q)
+            f : Follows (reach-width x) (newest ns) (at r q)
             f = reach-follows (h .table) r hd x
 
-            by : (b : Bool) → eqb n 0 ≡ b → Outcome h r (run h w ns (rest (h .table) r p))
-            by true e = good (c, faultless (h .table) (at r q) ns k (fieldsAt r p k) f .0 (eqb-true n 0 e))
+            by : (b : Bool) → eqb n 0 ≡ b → Outcome h r (run h w (reach-width x) ns (rest (h .table) r p))
+            by true e = good (c, faultless (h .table) (reach-width x) (at r q) ns k (fieldsAt r p k) f .0 (eqb-true n 0 e))
             by false e =
                 let z : 0 < n = omega (arith, eqb-false n 0 e) in
-                let d = faulty (h .table) (at r q) ns k (fieldsAt r p k) f n z .0 refl in
+                let d = faulty (h .table) (reach-width x) (at r q) ns k (fieldsAt r p k) f n z .0 refl in
                 let m : 3 < n = first-in (λ n. 3 < n) (recordFaults (h .table) (at r q) ns k (fieldsAt r p k)) n d (omega arith) in
-                at-record k o n _ (rw (ne-eqb n 3 (λ i. omega arith)) (c, d)) (fault-where (h .table) (at r q) ns k (fieldsAt r p k) f n p d)
+                at-record k o n _ (rw (ne-eqb n 3 (λ i. omega arith)) (c, d)) (fault-where (h .table) (reach-width x) (at r q) ns k (fieldsAt r p k) f n p d)
 
         at-kind : (k : Kind) → OfKind (h .table) (at r p) k
-            → (NoneOf (faults (h .table) r q ns p k) → Outcome h r (run h w ns (rest (h .table) r p))) → Outcome h r (run h w ns (rest (h .table) r p))
+            → (NoneOf (faults (h .table) r q ns p k) → Outcome h r (run h w (reach-width x) ns (rest (h .table) r p))) → Outcome h r (run h w (reach-width x) ns (rest (h .table) r p))
         at-kind k o good = by (ltb (length r) (endOf p k)) refl
           where
-            by : (c : Bool) → ltb (length r) (endOf p k) ≡ c → Outcome h r (run h w ns (rest (h .table) r p))
+            by : (c : Bool) → ltb (length r) (endOf p k) ≡ c → Outcome h r (run h w (reach-width x) ns (rest (h .table) r p))
             by true e = at-record k o 3 p (ltb-true (length r) (endOf p k) e) refl
             by false e = at-whole k o (λ i. omega (arith, ltb-false (length r) (endOf p k) e)) good
 
@@ -247,14 +256,15 @@ module _ (h : Head) (r : List ℕ) (hd : Headed (h .table) r) where
   is-ready ns p = ⊎-elim (λ d. inl (d .1)) (λ d. inr (d .1)) (decided ns (h .table) (at r p))
 
   abbrev From : ℕ → Type 0
-  From j = (q w p : ℕ) (ns : List Node) → length r ≤ p + j → Reaches (h .table) r q w ns p → Outcome h r (run h w ns (rest (h .table) r p))
+  From j = (q w p : ℕ) (ns : List Node) → length r ≤ p + j → (x : Reaches (h .table) r q w ns p) → Outcome h r (run h w (reach-width x) ns (rest (h .table) r p))
 
   -- j: as many bytes may be left
   outcome : (j : ℕ) → From j
+  unfolding reach-width
   outcome zero q w p ns l x = ⊎-elim (λ y. at-end q w p ns x y (omega arith)) (at-early q w p ns x) (is-ready ns p)
   outcome (suc j) q w p ns l x = ⊎-elim (λ y. by y (ltb p (length r)) refl (outcome j)) (at-early q w p ns x) (is-ready ns p)
     where
-      kind : Ready (h .table) r ns p → p < length r → From j → (o : Option Kind) → kindOf (h .table) (at r p) ≡ o → Outcome h r (run h w ns (rest (h .table) r p))
+      kind : Ready (h .table) r ns p → p < length r → From j → (o : Option Kind) → kindOf (h .table) (at r p) ≡ o → Outcome h r (run h w (reach-width x) ns (rest (h .table) r p))
       kind y i ih none e =
           let c = here q w p ns x y i in
           rw (run-bad q w p ns x y i e) (inl (⊎-elim (λ d. inl (d .0, (h .table, q, w, ns, c, d .1))) (λ d. inr (d .0, (h .table, q, w, ns, c, d .1))) (no-kind (h .table) (at r p) e)))
@@ -263,7 +273,7 @@ module _ (h : Head) (r : List ℕ) (hd : Headed (h .table) r) where
           at-kind q w p ns x y i k o λ n.
           rw (run-good q w p ns x y k o n) (ih p (madeAt (joins k) p w) (endOf p k) (added k (fieldsAt r p k) ns) (omega arith) (next x y k o n))
 
-      by : Ready (h .table) r ns p → (c : Bool) → ltb p (length r) ≡ c → From j → Outcome h r (run h w ns (rest (h .table) r p))
+      by : Ready (h .table) r ns p → (c : Bool) → ltb p (length r) ≡ c → From j → Outcome h r (run h w (reach-width x) ns (rest (h .table) r p))
       by y true e ih = kind y (ltb-true p (length r) e) ih (kindOf (h .table) (at r p)) refl
       by y false e ih = at-end q w p ns x y (ltb-false p (length r) e)
 
@@ -333,14 +343,14 @@ module _ (r : List ℕ) where
   run-judged h hd i (given m) (e, (q, w, x), n) = record { head = rw e at hd; identity = rw e at i; last = q; made = w; reached = rw e at x; whole = n }
 
   judged : Judged (meaning r)
-  unfolding meaning rest
+  unfolding meaning rest reach-width
   judged = by (headed r) (head-outcome r)
     where
-      by : (a : Answer Head) → HeadOutcome r a → Judged (andThen a (λ h. run h 0 [] (cut (h .table) 0 28 (drop 28 r))))
+      by : (a : Answer Head) → HeadOutcome r a → Judged (andThen a (λ h. run h 0 byte [] (cut (h .table) 0 28 (drop 28 r))))
       by (refused n p) o = inl o
-      by (given h) (hd, i) = run-judged h hd i (run h 0 [] (rest (h .table) r 28)) (outcome h r hd (length r) 0 0 28 [] (omega arith) start)
+      by (given h) (hd, i) = run-judged h hd i (run h 0 byte [] (rest (h .table) r 28)) (outcome h r hd (length r) 0 0 28 [] (omega arith) start)
 
-  meaning-run : (t : Table) → Headed t r → meaning r ≡ run (headOf t (part r 2 26)) 0 [] (rest t r 28)
+  meaning-run : (t : Table) → Headed t r → meaning r ≡ run (headOf t (part r 2 26)) 0 byte [] (rest t r 28)
   unfolding meaning rest
   meaning-run t hd = rw (headed-is r t hd)
 
@@ -360,7 +370,7 @@ module _ (r : List ℕ) where
       meaning-run t (c .head) ∙ (reach-run h r (c .head) (c .reached) ∙ run-faulty h r (c .head) q w p ns (c .reached) (c .ready) k o n place d u)
   refuses n place (inr (inr (inr (z, (t, q, ns, p, hd, x, early))))) =
       let h = headOf t (part r 2 26) in
-      meaning-run t hd ∙ (reach-run h r hd x ∙ (run-early h r hd place ns p (not-ready h r hd ns p early) ∙ rw z))
+      meaning-run t hd ∙ (reach-run h r hd x ∙ (run-early h r hd place (reach-width x) ns p (not-ready h r hd ns p early) ∙ rw z))
 
   gives : (m : Meaning) → Says r m → meaning r ≡ given m
   unfolding run

@@ -10,8 +10,8 @@ use borrow.Author.Tests.{eq-eqb, le-leb, leb-true}
 use Rattle.format.specs.Bytes.{pick, both, at, le, value, part}
 use Rattle.format.specs.Layout.{Item, fix, fld, two, to, orNone, arities, layWith}
 use Rattle.format.specs.Table.{Table, revision, least}
-use Rattle.format.specs.Form.{Form, processor, cache, memory, acpi, pci, rintc, oldRintc, domain, matrix, side, bridge, window, xor, size, typeOf, layout, registers, ways, ranges}
-use Rattle.format.specs.Row.{home, rowType, column, matches, formIn}
+use Rattle.format.specs.Form.{Form, processor, cache, memory, acpi, pci, rintc, oldRintc, domain, matrix, side, bridge, window, xor, size, typeOf, byte, pair, most, upTo, narrowest, layout, registers, ways, ranges}
+use Rattle.format.specs.Row.{home, rowType, counted, column, matches, formIn}
 use Rattle.format.specs.Read.{typeIn, sizeIn}
 use Rattle.laws.specs.Rename.{rename}
 use Rattle.laws.specs.Demand3.{rowFor}
@@ -42,7 +42,7 @@ Within pci vs = Unit
 Within oldRintc vs = ⊥
 Within rintc vs = Unit
 Within domain vs = Unit
-Within (matrix i t) vs = (i ≤ 255) × (t ≤ 255)
+Within (matrix i t) vs = (i ≤ most) × (t ≤ most)
 Within (side n) vs = n ≤ 65535
 Within (bridge n) vs = (at vs 1 < 256 ^ 4) × (n ≡ registers (at vs 1))
 Within (window n) vs = (at vs 2 < 256 ^ 1) × (n ≡ ways (at vs 2)) × (0 < n)
@@ -67,8 +67,16 @@ least-size (bridge n) = omega arith
 least-size (window n) = omega arith
 least-size (xor n) = omega arith
 
-square : (i t : ℕ) → i ≤ 255 → t ≤ 255 → i * t ≤ 255 * 255
+pub square : (i t : ℕ) → i ≤ most → t ≤ most → i * t ≤ most * most
 square i t h k = mul-le-mul h k
+
+-- the counts of a matrix are those of the row that the width of its normal form says
+counted-in : (i t : ℕ) → i ≤ most → t ≤ most → counted (narrowest i t) i t ≡ true
+counted-in i t h k = by (upTo 255 i t) refl
+  where
+    by : (x : Bool) → upTo 255 i t ≡ x → counted (pick x byte pair) i t ≡ true
+    by true e = e
+    by false e = rw (e, le-leb i most h, le-leb t most k)
 
 -- a window has 16 ways at most
 pub few-ways : (c : ℕ) → ways c ≤ 16
@@ -146,11 +154,11 @@ module _ (g : ℕ → ℕ) where
   size-in (window n) vs rest w = value-le 2 (size (window n)) (omega (arith, few-ways (at vs 2), w .1))
   size-in (xor n) vs rest w = value-le 2 (size (xor n)) (omega arith)
 
-  count-i : (i t : ℕ) (vs : List ℕ) → i ≤ 255 → value (part (layWith g (layout (matrix i t)) vs) 12 4) ≡ i
+  count-i : (i t : ℕ) (vs : List ℕ) → i ≤ most → value (part (layWith g (layout (matrix i t)) vs) 12 4) ≡ i
   unfolding layWith layout le value part
   count-i i t vs h = value-le 4 i (omega arith)
 
-  count-t : (i t : ℕ) (vs : List ℕ) → t ≤ 255 → value (part (layWith g (layout (matrix i t)) vs) 16 4) ≡ t
+  count-t : (i t : ℕ) (vs : List ℕ) → t ≤ most → value (part (layWith g (layout (matrix i t)) vs) 16 4) ≡ t
   unfolding layWith layout le value part
   count-t i t vs h = value-le 4 t (omega arith)
 
@@ -190,7 +198,7 @@ module _ (g : ℕ → ℕ) where
   column-in rintc vs w = rw (length-record g rintc vs)
   column-in domain vs w = rw (length-record g domain vs)
   column-in (matrix i t) vs w =
-      rw (length-record g (matrix i t) vs, count-i i t vs (w .0), count-t i t vs (w .1), le-leb 32 (size (matrix i t)) (omega arith), le-leb i 255 (w .0), le-leb t 255 (w .1))
+      rw (length-record g (matrix i t) vs, count-i i t vs (w .0), count-t i t vs (w .1), le-leb 32 (size (matrix i t)) (omega arith), counted-in i t (w .0) (w .1))
   column-in (side n) vs w = rw (length-record g (side n) vs, le-leb 32 (size (side n)) (omega arith))
   column-in (bridge n) vs w = rw (length-record g (bridge n) vs)
   column-in (window n) vs w = rw (length-record g (window n) vs, le-leb 40 (size (window n)) (omega arith))

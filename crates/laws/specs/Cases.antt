@@ -1,4 +1,4 @@
--- Document 01's cases C1 to C12, as one statement, and cases of orders 1, 2 and 4 of document 02. Identity fields and all fields not named are 0.
+-- Document 01's cases C1 to C12, as one statement, and cases of orders 1, 2, 4 and 6 of document 02. Identity fields and all fields not named are 0.
 use Prim.Native.Nat.{ℕ, _+_, _*_}
 use mathlib.Core.List.{List, [], _∷_, _++_}
 use mathlib.Core.Option.{none, some}
@@ -6,10 +6,11 @@ use mathlib.Core.Path.{_≡_}
 use lib.ListN.{length, drop, replicate}
 use Rattle.format.specs.Bytes.{refused, given, at, le, part}
 use Rattle.format.specs.Table.{Table, pptt, srat, hmat, cedt, code, sign}
-use Rattle.format.specs.Row.{oldRintcs, rintcs}
-use Rattle.format.specs.Kind.{Processor, Resource, Cache, Pci, Rintc, Matrix, Initiator, Cell, Side, Bridge, Window, WindowTarget, Xor, Map}
+use Rattle.format.specs.Form.{byte, pair}
+use Rattle.format.specs.Row.{matrices, oldRintcs, rintcs}
+use Rattle.format.specs.Kind.{Processor, Resource, Cache, Pci, Rintc, Matrix, Initiator, Target, Cell, Side, Bridge, Window, WindowTarget, Xor, Map}
 use Rattle.format.specs.Build.{build, table}
-use Rattle.format.specs.Normal.{call, each}
+use Rattle.format.specs.Normal.{call, each, normal}
 use Rattle.format.specs.Read.{reading, read, readPart}
 use Rattle.format.specs.Out.{every, readOut}
 
@@ -23,7 +24,7 @@ withResources n = head pptt ++ (call Cache (replicate 8 0) ++ (call Processor (0
 
 -- an I by T matrix, and more records
 abbrev pub withMatrix : ℕ → ℕ → List ℕ → List ℕ
-withMatrix i t more = head hmat ++ (call Matrix (0 ∷ 0 ∷ 0 ∷ 0 ∷ i ∷ t ∷ []) ++ more)
+withMatrix i t more = head hmat ++ (call (Matrix byte) (0 ∷ 0 ∷ 0 ∷ 0 ∷ i ∷ t ∷ []) ++ more)
 
 -- the recipe builds a table of this length, with this checksum
 abbrev pub Builds : List ℕ → ℕ → ℕ → Type 0
@@ -52,7 +53,7 @@ pub record CheckedByHand : Type 0 where
   pub c6 : Holds (withResources 58) 65 1 252
   pub c7 : Refuses (withResources 59) 7 (28 + 22 + 13 + 5 * 58)
   pub c8 : Holds (withMatrix 2 3 []) 44 4 64
-  pub c8-cell : Holds (withMatrix 2 3 (call Cell (1 ∷ 0 ∷ 4660 ∷ []))) (40 + 58) 2 4660
+  pub c8-cell : Holds (withMatrix 2 3 (call (Cell byte) (1 ∷ 0 ∷ 4660 ∷ []))) (40 + 58) 2 4660
   pub c9 : Holds (withMatrix 255 255 []) 44 4 132122
   pub c10 : Refuses [] 1 0
   pub c11 : Refuses (head pptt ++ call Processor (0 ∷ 1 ∷ 0 ∷ [])) 6 28
@@ -69,9 +70,9 @@ pub record ToldByHand : Type 0 where
   pub size : Refuses (head pptt ++ call Cache (0 ∷ 0 ∷ 1 ∷ replicate 5 0)) 5 34  -- although its flag is off: not the flags
   pub attributes : Refuses (head pptt ++ call Cache (255 ∷ 0 ∷ 0 ∷ 0 ∷ 0 ∷ 12 ∷ 0 ∷ 0 ∷ [])) 5 43
   pub first : Refuses (head srat ++ call Pci (0 ∷ 0 ∷ 0 ∷ 0 ∷ 8 ∷ 4 ∷ [])) 5 37  -- the function, not the flags behind it
-  pub transfer : Refuses (head hmat ++ call Matrix (0 ∷ 0 ∷ 12 ∷ 0 ∷ 1 ∷ 1 ∷ [])) 5 31
-  pub initiator : Refuses (withMatrix 2 3 (call Initiator (2 ∷ 0 ∷ []))) 5 43
-  pub column : Refuses (withMatrix 2 3 (call Cell (1 ∷ 3 ∷ 0 ∷ []))) 5 44
+  pub transfer : Refuses (head hmat ++ call (Matrix byte) (0 ∷ 0 ∷ 12 ∷ 0 ∷ 1 ∷ 1 ∷ [])) 5 31
+  pub initiator : Refuses (withMatrix 2 3 (call (Initiator byte) (2 ∷ 0 ∷ []))) 5 43
+  pub column : Refuses (withMatrix 2 3 (call (Cell byte) (1 ∷ 3 ∷ 0 ∷ []))) 5 44
   pub side : Refuses (head hmat ++ call Side (0 ∷ 0 ∷ 768 ∷ [])) 5 41
   pub none : Refuses (withNodes (call Processor (0 ∷ 1 ∷ 0 ∷ []) ++ call Resource (0 ∷ []))) 6 76
   pub own : Refuses (withNodes (call Cache (0 ∷ 3 ∷ replicate 6 0))) 6 63
@@ -172,3 +173,37 @@ pub record RintcByHand : Type 0 where
   pub place : NotOut (sratOf 3 27 (twenty ++ sixteen)) 32 68
   pub later : NotOut (sratOf 3 79 (sixteen ++ (9 ∷ 2 ∷ []))) 29 64  -- before its 32
   pub older : NotOut (sratOf 2 93 sixteen) 30 8
+
+-- an I by T matrix with counts of two bytes, and more records
+abbrev pub withWide : ℕ → ℕ → List ℕ → List ℕ
+withWide i t more = head hmat ++ (call (Matrix pair) (0 ∷ 0 ∷ 0 ∷ 0 ∷ i ∷ t ∷ []) ++ more)
+
+-- an HMAT whose one record is the first 32 bytes of an I by T matrix, and its checksum
+abbrev pub stub : ℕ → ℕ → ℕ → List ℕ
+stub check i t =
+    sign hmat ++ (le 4 72 ++ (1 ∷ check ∷ (replicate 30 0 ++ (le 4 1 ++ (le 4 32 ++ (replicate 4 0 ++ (le 4 i ++ (le 4 t ++ replicate 12 0))))))))
+
+-- order 6: the kinds, the row, their edges, and where settings of each width may stand
+pub record WideByHand : Type 0 where
+  pub racks : Holds (withWide 600 600 []) 44 4 724832
+  pub initiator : Holds (withWide 300 2 (call (Initiator pair) (256 ∷ 7 ∷ []))) (40 + 32 + 4 * 256) 4 7
+  pub target : Holds (withWide 2 300 (call (Target pair) (299 ∷ 7 ∷ []))) (40 + 32 + 4 * 301) 4 7
+  pub cell : Holds (withWide 300 2 (call (Cell pair) (299 ∷ 1 ∷ 4660 ∷ []))) (40 + 32 + 4 * 302 + 2 * 599) 2 4660
+  pub narrow : Refuses (withWide 1 1 (call (Initiator byte) (0 ∷ 0 ∷ []))) 4 44
+  pub wide : Refuses (withMatrix 1 1 (call (Initiator pair) (0 ∷ 0 ∷ []))) 4 42
+  pub between : Refuses (withWide 1 1 (call (Cell pair) (0 ∷ 0 ∷ 7 ∷ []) ++ call (Cell byte) (0 ∷ 0 ∷ 7 ∷ []))) 4 51
+  pub small : normal (withWide 1 1 (call (Cell pair) (0 ∷ 0 ∷ 7 ∷ []))) ≡ withMatrix 1 1 (call (Cell byte) (0 ∷ 0 ∷ 7 ∷ []))
+  pub large : normal (withWide 256 0 (call (Initiator pair) (255 ∷ 7 ∷ []))) ≡ withWide 256 0 (call (Initiator pair) (255 ∷ 7 ∷ []))
+  pub above : Refuses (withWide 4097 0 []) 5 40
+  pub second : Refuses (withWide 4096 4097 []) 5 42
+  pub outside : Refuses (withWide 256 1 (call (Cell pair) (256 ∷ 0 ∷ 0 ∷ []))) 5 45
+  pub column : Refuses (withWide 256 1 (call (Cell pair) (255 ∷ 1 ∷ 0 ∷ []))) 5 47
+  pub unknown : Refuses (head hmat ++ (59 ∷ [])) 2 28
+  pub most : build (withWide 4096 4096 []) 0 ≡ refused 9 33587272
+  pub long : Refuses (withWide 4096 4096 (call (Matrix pair) (0 ∷ 0 ∷ 0 ∷ 0 ∷ 4096 ∷ 4096 ∷ []))) 8 44
+  pub short : read (stub 107 256 0) every 0 ≡ refused 26 40  -- the row matches from 32 bytes on
+  pub past : read (stub 91 4097 0) every 0 ≡ given (reading 1 1 40 32 none [])
+  pub sixth : read (stub 109 255 0) 64 0 ≡ refused 26 40
+  pub bit : read (table (withWide 256 0 [])) 4096 0 ≡ given (reading 1 1 40 1056 (some (matrices pair)) (0 ∷ 0 ∷ 0 ∷ 256 ∷ 0 ∷ 0 ∷ []))
+  pub dim : read (table (withWide 256 0 [])) 64 0 ≡ given (reading 1 1 40 1056 none [])  -- row 6 alone is known
+  pub old : read (table (withWide 255 0 [])) 64 0 ≡ given (reading 1 1 40 1052 (some (matrices byte)) (0 ∷ 0 ∷ 0 ∷ 255 ∷ 0 ∷ 0 ∷ []))

@@ -9,20 +9,20 @@ use lib.Dec.{eqb}
 use Rattle.format.specs.Bytes.{pick, Answer, refused, given, at, part}
 use Rattle.format.specs.Layout.{width, fields}
 use Rattle.format.specs.Table.{Table, pptt, srat, hmat, cedt, code, front, limit, headOf}
-use Rattle.format.specs.Form.{cache, memory, acpi, pci, rintc, matrix, side, bridge, window, xor, registers, ways, typeOf}
+use Rattle.format.specs.Form.{cache, memory, acpi, pci, rintc, matrix, side, bridge, window, xor, octets, registers, ways, typeOf}
 use Rattle.format.specs.Node.{Node, sizes}
-use Rattle.format.specs.Kind.{Kind, Processor, Resource, Cache, Memory, Acpi, Pci, Rintc, Domain, Matrix, Initiator, Target, Cell, Side, Handle, Bridge, Window, WindowTarget, Xor, Map, kindNumber, body}
+use Rattle.format.specs.Kind.{Kind, Processor, Resource, Cache, Memory, Acpi, Pci, Rintc, Domain, Matrix, Initiator, Target, Cell, Side, Handle, Bridge, Window, WindowTarget, Xor, Map, matrixNumber, kindNumber, body}
 use Rattle.format.specs.Recipe.{Newest, aList, aMatrix, other, newest, added, Meaning}
 use Rattle.format.specs.Build.{lengthOf, build}
 use Rattle.laws.specs.Words.{FirstOf, NoneOf, Every, FirstNot, Among, Rules, References}
 
 -- ---- the kinds
 
--- 16 to 18 PPTT, 32 to 36 SRAT, 48 to 54 HMAT, 64 to 68 CEDT
+-- 16 to 18 PPTT, 32 to 36 SRAT, 48 to 58 HMAT, 64 to 68 CEDT
 abbrev pub Belongs : Table → ℕ → Type 0
 Belongs pptt b = (16 ≤ b) × (b ≤ 18)
 Belongs srat b = (32 ≤ b) × (b ≤ 36)
-Belongs hmat b = (48 ≤ b) × (b ≤ 54)
+Belongs hmat b = (48 ≤ b) × (b ≤ 58)
 Belongs cedt b = (64 ≤ b) × (b ≤ 68)
 
 -- one of them, 35 of SRAT, is retired
@@ -39,10 +39,10 @@ joins Acpi = none
 joins Pci = none
 joins Rintc = none
 joins Domain = none
-joins Matrix = none
-joins Initiator = some (49, 52)
-joins Target = some (49, 52)
-joins Cell = some (49, 52)
+joins (Matrix w) = none
+joins (Initiator w) = some (matrixNumber w, matrixNumber w + 3)
+joins (Target w) = some (matrixNumber w, matrixNumber w + 3)
+joins (Cell w) = some (matrixNumber w, matrixNumber w + 3)
 joins Side = none
 joins Handle = some (53, 54)
 joins Bridge = none
@@ -98,10 +98,10 @@ Ranged Acpi vs n = Rules acpi vs
 Ranged Pci vs n = Rules pci vs
 Ranged Rintc vs n = Rules rintc vs
 Ranged Domain vs n = []
-Ranged Matrix vs n = Rules (matrix (at vs 4) (at vs 5)) vs
-Ranged Initiator vs n = (at vs 0 < counts n .0) ∷ []
-Ranged Target vs n = (at vs 0 < counts n .1) ∷ []
-Ranged Cell vs n = (at vs 0 < counts n .0) ∷ (at vs 1 < counts n .1) ∷ []
+Ranged (Matrix w) vs n = Rules (matrix (at vs 4) (at vs 5)) vs
+Ranged (Initiator w) vs n = (at vs 0 < counts n .0) ∷ []
+Ranged (Target w) vs n = (at vs 0 < counts n .1) ∷ []
+Ranged (Cell w) vs n = (at vs 0 < counts n .0) ∷ (at vs 1 < counts n .1) ∷ []
 Ranged Side vs n = Rules (side 0) vs
 Ranged Handle vs n = []
 Ranged Bridge vs n = Rules (bridge (registers (at vs 1))) vs
@@ -120,10 +120,10 @@ places Acpi = 1 ∷ 5 ∷ 13 ∷ 17 ∷ []
 places Pci = 1 ∷ 5 ∷ 7 ∷ 8 ∷ 9 ∷ 10 ∷ []
 places Rintc = 1 ∷ 5 ∷ 9 ∷ 10 ∷ []
 places Domain = 1 ∷ 5 ∷ []
-places Matrix = 1 ∷ 2 ∷ 3 ∷ 4 ∷ 12 ∷ 13 ∷ []
-places Initiator = 1 ∷ 2 ∷ []
-places Target = 1 ∷ 2 ∷ []
-places Cell = 1 ∷ 2 ∷ 3 ∷ []
+places (Matrix w) = 1 ∷ 2 ∷ 3 ∷ 4 ∷ 12 ∷ (12 + octets w) ∷ []
+places (Initiator w) = 1 ∷ (1 + octets w) ∷ []
+places (Target w) = 1 ∷ (1 + octets w) ∷ []
+places (Cell w) = 1 ∷ (1 + octets w) ∷ (1 + octets w + octets w) ∷ []
 places Side = 1 ∷ 5 ∷ 13 ∷ []
 places Handle = 1 ∷ []
 places Bridge = 1 ∷ 5 ∷ 6 ∷ []
@@ -142,10 +142,10 @@ Full Acpi n = ⊥
 Full Pci n = ⊥
 Full Rintc n = ⊥
 Full Domain n = ⊥
-Full Matrix n = ⊥
-Full Initiator n = ⊥
-Full Target n = ⊥
-Full Cell n = ⊥
+Full (Matrix w) n = ⊥
+Full (Initiator w) n = ⊥
+Full (Target w) n = ⊥
+Full (Cell w) n = ⊥
 Full Side n = ⊥
 Full Handle n = 65535 ≤ entries n
 Full Bridge n = ⊥

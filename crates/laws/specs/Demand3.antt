@@ -8,8 +8,8 @@ use mathlib.Core.Option.{Option, none, some}
 use lib.ListN.{length, take, getElem?}
 use Rattle.format.specs.Bytes.{at, part, refused, given}
 use Rattle.format.specs.Table.{Table, sign, front}
-use Rattle.format.specs.Form.{Form, processor, cache, memory, acpi, pci, rintc, oldRintc, domain, matrix, side, bridge, window, xor, typeOf, size, layout}
-use Rattle.format.specs.Row.{Row, processors, caches, memories, initiators, oldRintcs, rintcs, domains, matrices, sides, bridges, windows, xors, home, matches, knows, known}
+use Rattle.format.specs.Form.{Form, processor, cache, memory, acpi, pci, rintc, oldRintc, domain, matrix, side, bridge, window, xor, typeOf, size, narrowest, layout}
+use Rattle.format.specs.Row.{Row, processors, caches, memories, initiators, oldRintcs, rintcs, domains, matrices, sides, bridges, windows, xors, rowNumber, home, matches, knows, known}
 use Rattle.format.specs.Node.{Node, bytes, Entry, sizes, starts, placeOf}
 use Rattle.format.specs.Recipe.{Meaning, meaning}
 use Rattle.format.specs.Build.{table}
@@ -77,6 +77,10 @@ orWhole (some r) list whole = list
 abbrev pub widened : List ℕ → ℕ → Reading → List ℕ → List ℕ
 widened b m (reading count type place length row fields) list = orWhole (known m row) list (part b place length)
 
+-- each row has a bit of its own
+abbrev pub OwnBits : Type 0
+OwnBits = (r q : Row) → rowNumber r ≡ rowNumber q → r ≡ q
+
 -- ---- unknown exactly when
 
 -- the row is of table t and matches a record of this revision, type and bytes
@@ -102,7 +106,7 @@ rowFor pci = initiators
 rowFor oldRintc = oldRintcs
 rowFor rintc = rintcs
 rowFor domain = domains
-rowFor (matrix i t) = matrices
+rowFor (matrix i t) = matrices (narrowest i t)
 rowFor (side n) = sides
 rowFor (bridge n) = bridges
 rowFor (window n) = windows

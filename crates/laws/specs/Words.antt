@@ -7,7 +7,7 @@ use lib.ListN.{drop}
 use lib.Dec.{eqb}
 use Rattle.format.specs.Bytes.{pick, at, value, part, bits}
 use Rattle.format.specs.Layout.{Item, fix, fld, two, to, orNone}
-use Rattle.format.specs.Form.{Form, processor, cache, memory, acpi, pci, rintc, oldRintc, domain, matrix, side, bridge, window, xor}
+use Rattle.format.specs.Form.{Form, processor, cache, memory, acpi, pci, rintc, oldRintc, domain, matrix, side, bridge, window, xor, most}
 
 -- ---- conditions in the order of a list, each beside its number
 
@@ -67,7 +67,7 @@ Rules rintc vs = Any ∷ Any ∷ (at vs 2 ≤ 1) ∷ []
 Rules domain vs = []
 Rules (matrix i t) vs =
     -- flags: bits 0..1, 4 and 5, the rest 0
-    ((bits (at vs 0) 2 2 ≡ 0) × (at vs 0 < 64)) ∷ (at vs 1 ≤ 5) ∷ (at vs 2 ≤ 11) ∷ []
+    ((bits (at vs 0) 2 2 ≡ 0) × (at vs 0 < 64)) ∷ (at vs 1 ≤ 5) ∷ (at vs 2 ≤ 11) ∷ Any ∷ (i ≤ most) ∷ (t ≤ most) ∷ []
 Rules (side n) vs =
     -- levels 0..3, twice, associativity 0..2, policy 0..2, four bits each
     let a : ℕ = at vs 2 in

@@ -7,10 +7,15 @@ ghost use Rattle.format.specs.Table.{pptt};
 ghost use Rattle.marks.specs.Marks.{firstMark, spreadOf, kept, markIn, noted, under, towardNode, towardPlace};
 use header::Table;
 
-// How many marks a pass keeps: for a short table, and for a long one.
+// How many marks a pass keeps: for a short table, for a long one, and for one that is longer than LONG. In the longest table 1,024 bytes share
+// one of MOST, and in one of LONG 256 share one of MANY: a walk passes no more.
 pub const FEW: usize = 1024;
 
 pub const MANY: usize = 4096;
+
+pub const MOST: usize = 65536;
+
+pub const LONG: usize = 1048576;
 
 // A place, and how many nodes stand before it.
 pub struct Mark {

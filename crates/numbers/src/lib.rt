@@ -2,6 +2,8 @@
 ghost use mathlib.Core.Path.{_≡_};
 ghost use lib.ListN.{length};
 ghost use Rattle.format.specs.Bytes.{over};
+ghost use Rattle.format.specs.Row.{matrices, rowNumber};
+ghost use Rattle.hmat.specs.Widths.{meantWidth};
 ghost use Rattle.read.specs.Answers.{rowIn, fieldsIn};
 ghost use Rattle.numbers.specs.Rows.{rowAs};
 use cedt::CxlFixedMemory;
@@ -10,6 +12,7 @@ use cedt::XorInterleaveMath;
 use hmat::MemoryProximityDomain;
 use hmat::MemorySideCache;
 use hmat::SystemLocality;
+use hmat::Width;
 use pptt::CacheNode;
 use pptt::ProcessorNode;
 use read::Node;
@@ -19,6 +22,16 @@ use srat::RintcAffinity;
 
 // The row of a record that no known row fits.
 pub const UNKNOWN: u64 = 255;
+
+// The number of a matrix's row: the width of its counts tells the two apart.
+fn matrix_row(width: Width) -> u64
+    ensures { λ r. ⌜ r ≡ rowNumber (matrices (meantWidth width)) ⌝ }
+{
+    match width {
+        Width::Byte => 6,
+        Width::Pair => 12,
+    }
+}
 
 // The number of a record's row.
 pub fn row_number(node: Node) -> u64
@@ -31,7 +44,7 @@ pub fn row_number(node: Node) -> u64
         Node::Initiator(_) => 3,
         Node::OldRintc(_) => 4,
         Node::Domain(_) => 5,
-        Node::Matrix(_) => 6,
+        Node::Matrix(n) => matrix_row(n.width()),
         Node::Side(_) => 7,
         Node::Bridge(_) => 8,
         Node::Window(_) => 9,

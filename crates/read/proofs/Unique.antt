@@ -42,7 +42,7 @@ nodeOf (some memories) vs = node.Memory (record { «proximity_domain» = at vs 0
 nodeOf (some initiators) vs = node.Initiator (record { «proximity_domain» = at vs 1; handle = handleOf vs; flags = pick (eqb (at vs 0) 0) (at vs 4) (at vs 6) })
 nodeOf (some oldRintcs) vs = node.OldRintc (record { «acpi_processor_uid» = at vs 0; flags = at vs 1; «clock_domain» = at vs 2 })
 nodeOf (some domains) vs = node.Domain (record { «proximity_domain_initiator» = at vs 0; «proximity_domain_memory» = at vs 1 })
-nodeOf (some matrices) vs =
+nodeOf (some (matrices w)) vs =
     node.Matrix (record { flags = at vs 0; «data_type» = at vs 1; «min_transfer_size» = at vs 2; «entry_base_unit» = at vs 5; initiators = at vs 3; targets = at vs 4 })
 nodeOf (some sides) vs = node.Side (record { «proximity_domain» = at vs 0; «cache_size» = at vs 1; attributes = at vs 2; «smbios_handles» = at vs 3 })
 nodeOf (some bridges) vs = node.Bridge (record { «host_bridge_uid» = at vs 0; «cxl_version» = at vs 1; «port_base» = at vs 2 })

@@ -3,6 +3,7 @@ use Prim.Native.Nat.{ℕ}
 use mathlib.Core.List.{List, []}
 use mathlib.Core.Option.{Option, none, some}
 use Rattle.format.specs.Bytes.{Answer, given}
+use Rattle.format.specs.Form.{narrowest}
 use Rattle.format.specs.Row.{Row, processors, caches, memories, initiators, oldRintcs, domains, matrices, sides, bridges, windows, xors, rintcs}
 use Rattle.format.specs.Read.{Reading, reading}
 use Rattle.pptt.specs.Processor.{processorShown}
@@ -21,7 +22,7 @@ use Rattle.read.specs.declared.Accepted.the-variants as accepted
 use Rattle.read.specs.declared.Reply.{Reply}
 use Rattle.read.specs.declared.Reply.the-variants as reply
 
--- the row that a node is of; none of an unknown record
+-- the row that a node is of, a matrix by its counts; none of an unknown record
 abbrev pub rowIn : Node → Option Row
 rowIn (node.Processor n) = some processors
 rowIn (node.Cache n) = some caches
@@ -29,7 +30,7 @@ rowIn (node.Memory n) = some memories
 rowIn (node.Initiator n) = some initiators
 rowIn (node.OldRintc n) = some oldRintcs
 rowIn (node.Domain n) = some domains
-rowIn (node.Matrix n) = some matrices
+rowIn (node.Matrix n) = some (matrices (narrowest (n .initiators) (n .targets)))
 rowIn (node.Side n) = some sides
 rowIn (node.Bridge n) = some bridges
 rowIn (node.Window n) = some windows

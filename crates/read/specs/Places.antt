@@ -1,15 +1,15 @@
 -- A table's records by their places: what a reader judges at one, what it sees there, and where the next one is.
 use mathlib.Core.Path.{_≡_}
-use Prim.Native.Nat.{ℕ, zero, suc, _+_}
+use Prim.Native.Nat.{ℕ, zero, suc, _+_, _≤_}
 use mathlib.Core.List.{List, [], _∷_}
 use mathlib.Core.Bool.{Bool, true}
 use mathlib.Core.Option.{Option, none, some}
 use lib.ListN.{length, drop, replicate}
-use Rattle.format.specs.Bytes.{pick, Answer, refused, given, andThen, unless, at}
+use Rattle.format.specs.Bytes.{pick, Answer, refused, given, andThen, unless, at, value, part}
 use Rattle.format.specs.Layout.{to, fields, refsGood}
 use Rattle.format.specs.Table.{Table, front}
-use Rattle.format.specs.Form.{layout}
-use Rattle.format.specs.Row.{Row, home, formIn, known, rowOf}
+use Rattle.format.specs.Form.{Width, narrowest, layout}
+use Rattle.format.specs.Row.{Row, processors, matrices, home, formIn, known, rowOf}
 use Rattle.format.specs.Read.{signed, own, typeIn, framed, recordFault, Seen, seenAs, partOf}
 use Rattle.frames.specs.Frames.{refers, recordIn}
 
@@ -18,6 +18,15 @@ use Rattle.frames.specs.Frames.{refers, recordIn}
 -- the row, where there is one, is of the table
 abbrev pub RowOf : Table → Option Row → Type 0
 RowOf t o = (r : Row) → o ≡ some r → home r ≡ t
+
+-- the most bytes that the row of processors allows
+abbrev pub longestProcessor : ℕ
+longestProcessor = 252
+
+-- the bytes have the length and the counts that their row, where there is one, asks for, as far as the node of a record says them
+pub record Fits (row : Option Row) (bs : List ℕ) : Type 0 where
+  pub short : row ≡ some processors → length bs ≤ longestProcessor
+  pub counts : (w : Width) → row ≡ some (matrices w) → narrowest (value (part bs 12 4)) (value (part bs 16 4)) ≡ w
 
 -- the n references at the front of bs are good
 unfoldable pub linked : (ℕ → ℕ → Bool) → ℕ → List ℕ → Bool

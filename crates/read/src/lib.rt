@@ -14,7 +14,7 @@ ghost use Rattle.pptt.specs.Processor.{processorShown};
 ghost use Rattle.rows.specs.Rows.{rowMeant};
 ghost use Rattle.marks.specs.Marks.{Every};
 ghost use Rattle.frames.specs.Frames.{framesOf, Passed, refers};
-ghost use Rattle.read.specs.Places.{RowOf, linked, refsIn, judgedAt, counted, bodyAt, seenAt, partAt, firstPlace, behind};
+ghost use Rattle.read.specs.Places.{RowOf, longestProcessor, Fits, linked, refsIn, judgedAt, counted, bodyAt, seenAt, partAt, firstPlace, behind};
 ghost use Rattle.read.specs.Answers.{rowIn, fieldsIn, shownAs, stepAs, acceptedAs, shown};
 use cedt::CxlFixedMemory;
 use cedt::CxlHostBridge;
@@ -136,7 +136,7 @@ fn refs_good(c: &[u8], marks: &[u64], shift: u32, own: usize, row: Row, body: &[
         Row::Initiators => true,
         Row::OldRintcs => true,
         Row::Domains => true,
-        Row::Matrices => true,
+        Row::Matrices(_) => true,
         Row::Sides => true,
         Row::Bridges => true,
         Row::Windows => true,
@@ -223,7 +223,21 @@ fn judge_all(t: Table, c: &[u8], marks: &mut [u64], shift: u32, revision: u8, ma
     Accepted::Records(count)
 }
 
-// The same, with room for marks where there are references: in a PPTT, for more where it is long.
+// The same, with room for the most marks, and once more for each of again: LLVM does not inline a function that calls itself, so that no other table pays for that room.
+fn scan_long(t: Table, c: &[u8], revision: u8, mask: u32, again: u8) -> Accepted
+    requires { ⌜ length (now c) ≤ limit ⌝ }
+    ensures { λ r. ⌜ acceptedAs r ≡ counted (walk (meant t) revision mask [] (framesOf (meant t) (now (c .entry)))) ⌝ }
+{
+    let mut most = [0u64; marks::MOST];
+    let shift = marks::spread(c.len(), marks::MOST);
+    let answer = judge_all(t, c, &mut most, shift, revision, mask);
+    if 0 < again {
+        return scan_long(t, c, revision, mask, again - 1);
+    }
+    answer
+}
+
+// The same, with room for marks where there are references: in a PPTT, for more the longer it is.
 fn scan(t: Table, c: &[u8], revision: u8, mask: u32) -> Accepted
     requires { ⌜ length (now c) ≤ limit ⌝ }
     ensures { λ r. ⌜ acceptedAs r ≡ counted (walk (meant t) revision mask [] (framesOf (meant t) (now (c .entry)))) ⌝ }
@@ -234,9 +248,12 @@ fn scan(t: Table, c: &[u8], revision: u8, mask: u32) -> Accepted
             let shift = marks::spread(c.len(), marks::FEW);
             return judge_all(t, c, &mut few, shift, revision, mask);
         }
-        let mut many = [0u64; marks::MANY];
-        let shift = marks::spread(c.len(), marks::MANY);
-        return judge_all(t, c, &mut many, shift, revision, mask);
+        if c.len() <= marks::LONG {
+            let mut many = [0u64; marks::MANY];
+            let shift = marks::spread(c.len(), marks::MANY);
+            return judge_all(t, c, &mut many, shift, revision, mask);
+        }
+        return scan_long(t, c, revision, mask, revision / 255);
     }
     let mut one = [0u64; 1];
     judge_all(t, c, &mut one, 63, revision, mask)
@@ -314,7 +331,7 @@ fn place_of(table: &[u8], n: usize) -> usize
 
 // A processor has as many resources as its record has room for: what it says of their number is tested elsewhere.
 fn processor_in(body: &[u8]) -> ProcessorNode
-    requires { ⌜ length (now body) ≤ 252 ⌝ }
+    requires { ⌜ length (now body) ≤ longestProcessor ⌝ }
     ensures { λ r. ⌜ processorShown r ≡ fieldsOf (some processors) (now (body .entry)) ⌝ }
 {
     let mut n = ProcessorNode::get(body, 0);
@@ -323,7 +340,7 @@ fn processor_in(body: &[u8]) -> ProcessorNode
 }
 
 fn node_in(row: Row, body: &[u8]) -> Node
-    requires { ⌜ (rowMeant row ≡ some processors → length (now body) ≤ 252) ⌝ }
+    requires { ⌜ Fits (rowMeant row) (now body) ⌝ }
     ensures { λ r. ⌜ (rowIn r ≡ rowMeant row) × (fieldsIn r ≡ fieldsOf (rowMeant row) (now (body .entry))) ⌝ }
 {
     match row {
@@ -333,7 +350,7 @@ fn node_in(row: Row, body: &[u8]) -> Node
         Row::Initiators => Node::Initiator(GenericInitiator::get(body, 0)),
         Row::OldRintcs => Node::OldRintc(OldRintcAffinity::get(body, 0)),
         Row::Domains => Node::Domain(MemoryProximityDomain::get(body, 0)),
-        Row::Matrices => Node::Matrix(SystemLocality::get(body, 0)),
+        Row::Matrices(_) => Node::Matrix(SystemLocality::get(body, 0)),
         Row::Sides => Node::Side(MemorySideCache::get(body, 0)),
         Row::Bridges => Node::Bridge(CxlHostBridge::get(body, 0)),
         Row::Windows => Node::Window(CxlFixedMemory::get(body, 0)),

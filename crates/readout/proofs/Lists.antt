@@ -9,11 +9,13 @@ use lib.ListN.{length, replicate, length-append}
 use lib.Dec.{eqb}
 use Rattle.format.specs.Bytes.{pick, value, part, le, over}
 use Rattle.format.specs.Layout.{Item, to, wide, takenWith, width, layWith, lay}
+use Rattle.format.specs.Form.{Width, byte, pair, octets}
 use Rattle.format.specs.Kind.{Kind, Initiator, Cell, body}
 use Rattle.format.specs.Normal.{call, each, eachSet}
 use Rattle.laws.specs.Offsets.{fieldsAt}
 use Rattle.laws.proofs.Bytes.{le-mod, over-over, over-none, length-over}
 use Rattle.laws.proofs.Fields.{length-call}
+use Rattle.readout.specs.Bounds.{settingMost}
 use Rattle.readout.specs.Laid.{Laid}
 use Rattle.readout.specs.Places.{setting}
 
@@ -54,19 +56,33 @@ pub put-laid : {a b xs ys : List ℕ} {p r : ℕ} → b ≡ over a p xs → r �
 put-laid {a} {b} {xs} {ys} {p} {r} w l e = record { bytes = w ∙ ap (over a p) e; next = ap (λ (x : ℕ). p + x) (l ∙ ap length e) }
 
 -- an index and a reference are written by their low bytes
-low-byte : (v : ℕ) → le 1 (v % 256) ≡ le 1 v
-low-byte v = le-mod 1 v
+low-index : (w : Width) (v : ℕ) → le (octets w) (v % 65536) ≡ le (octets w) v
+low-index byte v =
+    let e : v % 65536 % 256 ≡ v % 256 = omega arith in
+    sym (le-mod 1 (v % 65536)) ∙ rw e (le-mod 1 v)
+low-index pair v = le-mod 2 v
 
 pub low-word : (x v : ℕ) → x ≡ v % 4294967296 → le 4 x ≡ le 4 v
 low-word x v e = ap (le 4) e ∙ le-mod 4 v
 
-pub low-setting : (kind j v : ℕ) → kind ∷ lay (body Initiator) (j % 256 ∷ v ∷ []) ≡ setting kind j v
+pub low-setting : (w : Width) (kind j v : ℕ) → kind ∷ lay (body (Initiator w)) (j % 65536 ∷ v ∷ []) ≡ setting w kind j v
 unfolding layWith body
-low-setting kind j v = rw (low-byte j)
+low-setting w kind j v = rw (low-index w j)
 
-pub low-cell : (i j v : ℕ) → call Cell (i % 256 ∷ j % 256 ∷ v ∷ []) ≡ call Cell (i ∷ j ∷ v ∷ [])
+pub low-cell : (w : Width) (i j v : ℕ) → call (Cell w) (i % 65536 ∷ j % 65536 ∷ v ∷ []) ≡ call (Cell w) (i ∷ j ∷ v ∷ [])
 unfolding layWith body
-low-cell i j v = rw (low-byte i, low-byte j)
+low-cell w i j v = rw (low-index w i, low-index w j)
+
+-- how long a setting is at most
+pub setting-short : (w : Width) (kind j v : ℕ) → length (setting w kind j v) ≤ settingMost
+unfolding body width
+setting-short byte kind j v = omega (arith, length-call (Initiator byte) (j ∷ v ∷ []))
+setting-short pair kind j v = omega (arith, length-call (Initiator pair) (j ∷ v ∷ []))
+
+pub cell-short : (w : Width) (vs : List ℕ) → length (call (Cell w) vs) ≤ settingMost
+unfolding body width
+cell-short byte vs = omega (arith, length-call (Cell byte) vs)
+cell-short pair vs = omega (arith, length-call (Cell pair) vs)
 
 -- ---- lists of a layout
 

@@ -11,10 +11,10 @@ use lib.Seq.{take-at, drop-at, drop-drop}
 use lib.ListN.{length, length-append, take, drop, replicate, replicate-append-replicate}
 use Rattle.format.specs.Bytes.{pick, at, value, part, over}
 use Rattle.format.specs.Layout.{Item, fld, to, asIs, width, layWith, fieldsWith}
-use Rattle.format.specs.Form.{Form, processor, cache, memory, acpi, pci, rintc, oldRintc, domain, matrix, side, bridge, window, xor, layout, ways}
+use Rattle.format.specs.Form.{Form, processor, cache, memory, acpi, pci, rintc, oldRintc, domain, matrix, side, bridge, window, xor, Width, byte, pair, most, narrowest, layout, ways}
 use Rattle.format.specs.Row.{initiators, matrices, sides, windows, xors, formIn}
-use Rattle.format.specs.Kind.{Kind, Processor, Resource, Cache, Memory, Acpi, Pci, Rintc, Domain, Matrix, Cell, Side, Handle, Bridge, Window, WindowTarget, Xor, Map, body}
-use Rattle.format.specs.Normal.{call, each, eachSet, settings, calls, callsOfNode}
+use Rattle.format.specs.Kind.{Kind, Processor, Resource, Cache, Memory, Acpi, Pci, Rintc, Domain, Matrix, Initiator, Target, Cell, Side, Handle, Bridge, Window, WindowTarget, Xor, Map, kindNumber, body}
+use Rattle.format.specs.Normal.{call, each, eachSet, settings, matrixCalls, calls, callsOfNode}
 use Rattle.laws.specs.Offsets.{fieldsAt, trimmed}
 use Rattle.format.specs.Node.{Node, nodeAt}
 use Rattle.format.specs.Read.{shown}
@@ -80,24 +80,30 @@ module _ (g : ℕ → ℕ) (bs : List ℕ) where
 
 -- ---- records with a list: the node before it, and the list
 
-pub matrix-counts : (bs : List ℕ) (n : SystemLocality) → matrixHead n ≡ trimmed 4 (nodeAt asIs (formIn matrices bs) bs)
+pub matrix-counts : (bs : List ℕ) (n : SystemLocality) → matrixHead n ≡ trimmed 4 (nodeAt asIs (formIn (matrices byte) bs) bs)
     → (n .initiators ≡ value (part bs 12 4)) × (n .targets ≡ value (part bs 16 4))
 unfolding formIn nodeAt
 matrix-counts bs n e =
     let f : matrixForm n ≡ matrix (value (part bs 12 4)) (value (part bs 16 4)) = ap (λ (m : Node). m .form) e in
     (cc, cc)
 
-pub matrix-calls : (g : ℕ → ℕ) (bs : List ℕ) (n : SystemLocality) → matrixHead n ≡ trimmed 4 (nodeAt asIs (formIn matrices bs) bs)
-    → callsIn g (formIn matrices bs) bs
-    ≡ call Matrix (matrixCall n) ++ settings (n .initiators) (n .targets) (fieldsAt g (replicate (n .initiators + n .targets) (fld 4) ++ replicate (n .initiators * n .targets) (fld 2)) bs 32)
-unfolding formIn calls layout
-matrix-calls g bs n e =
+pub matrix-calls : (g : ℕ → ℕ) (bs : List ℕ) (n : SystemLocality) (w : Width) → matrixHead n ≡ trimmed 4 (nodeAt asIs (formIn (matrices byte) bs) bs) → w ≡ narrowest (n .initiators) (n .targets)
+    → callsIn g (matrix (value (part bs 12 4)) (value (part bs 16 4))) bs
+    ≡ call (Matrix (narrowest (n .initiators) (n .targets))) (matrixCall n) ++ settings w (n .initiators) (n .targets) (fieldsAt g (replicate (n .initiators + n .targets) (fld 4) ++ replicate (n .initiators * n .targets) (fld 2)) bs 32)
+unfolding formIn calls matrixCalls layout
+matrix-calls g bs n w e q =
     let (i, t) = matrix-counts bs n e in
     let I = value (part bs 12 4) in
     let T = value (part bs 16 4) in
-    let s : matrixFields n ≡ take 4 (fieldsAt g (layout (matrix I T)) bs 0) = ap (λ (m : Node). m .values) (e ∙ ap (trimmed 4) (node-at asIs (formIn matrices bs) bs)) in
-    let more = settings I T (fieldsAt g (replicate (I + T) (fld 4) ++ replicate (I * T) (fld 2)) bs 32) in
-    rw (calls-at g (formIn matrices bs) bs, i, t) (ap (λ (vs : List ℕ). call Matrix (vs ++ (I ∷ T ∷ [])) ++ more) (sym s))
+    let s : matrixFields n ≡ take 4 (fieldsAt g (layout (matrix I T)) bs 0) = ap (λ (m : Node). m .values) (e ∙ ap (trimmed 4) (node-at asIs (matrix I T) bs)) in
+    let more = settings (narrowest I T) I T (fieldsAt g (replicate (I + T) (fld 4) ++ replicate (I * T) (fld 2)) bs 32) in
+    rw (calls-at g (matrix I T) bs, q, i, t) (ap (λ (vs : List ℕ). call (Matrix (narrowest I T)) (vs ++ (I ∷ T ∷ [])) ++ more) (sym s))
+
+-- a matrix's own call is at most 16 bytes
+pub matrix-short : (w : Width) (vs : List ℕ) → length (call (Matrix w) vs) ≤ 16
+unfolding body width
+matrix-short byte vs = omega (arith, length-call (Matrix byte) vs)
+matrix-short pair vs = omega (arith, length-call (Matrix pair) vs)
 
 -- g: how a reference is read, of which there are none; head: the node before the list, of the m fields that the call K has; J: the call of each number
 module _ (g : ℕ → ℕ) (f : Form) (bs : List ℕ) (head : Node) (m : ℕ) (e : head ≡ trimmed m (nodeAt asIs f bs)) where
@@ -211,13 +217,14 @@ three-parts a b c i t l m =
     let d = drop-at a (b ++ c) i l in
     (take-at a (b ++ c) i l, rw d (take-at b c t m), sym (drop-drop t i (a ++ (b ++ c))) ∙ rw d (drop-at b c t m))
 
-pub settings-at : (g : ℕ → ℕ) (bs : List ℕ) (i t p : ℕ)
-    → settings i t (fieldsAt g (replicate (i + t) (fld 4) ++ replicate (i * t) (fld 2)) bs p)
-    ≡ eachSet (setting 50) 0 0 (fieldsAt asIs (replicate i (fld 4)) bs p)
-    ++ (eachSet (setting 51) 0 0 (fieldsAt asIs (replicate t (fld 4)) bs (p + 4 * i))
-    ++ eachSet (λ e v. call Cell (e / t ∷ e % t ∷ v ∷ [])) 65535 0 (fieldsAt asIs (replicate (i * t) (fld 2)) bs (p + 4 * i + 4 * t)))
+-- x, y: their kinds
+pub settings-at : (g : ℕ → ℕ) (bs : List ℕ) (w : Width) (i t p x y : ℕ) → x ≡ kindNumber (Initiator w) → y ≡ kindNumber (Target w)
+    → settings w i t (fieldsAt g (replicate (i + t) (fld 4) ++ replicate (i * t) (fld 2)) bs p)
+    ≡ eachSet (setting w x) 0 0 (fieldsAt asIs (replicate i (fld 4)) bs p)
+    ++ (eachSet (setting w y) 0 0 (fieldsAt asIs (replicate t (fld 4)) bs (p + 4 * i))
+    ++ eachSet (λ e v. call (Cell w) (e / t ∷ e % t ∷ v ∷ [])) 65535 0 (fieldsAt asIs (replicate (i * t) (fld 2)) bs (p + 4 * i + 4 * t)))
 unfolding settings body
-settings-at g bs i t p =
+settings-at g bs w i t p x y a b =
     let q = p + 4 * i in
     let js = replicate (i * t) (fld 2) in
     let A = fieldsAt g (replicate i (fld 4)) bs p in
@@ -225,14 +232,14 @@ settings-at g bs i t p =
     let C = fieldsAt g js bs (q + 4 * t) in
     let e : fieldsAt g (replicate (i + t) (fld 4) ++ js) bs p ≡ A ++ (B ++ C) =
     rw (← replicate-append-replicate i t (fld 4), append-assoc, list-join g bs i p (replicate t (fld 4) ++ js), list-join g bs t q js) in
-    let (x, y, z) = three-parts A B C i t (length-list g bs i 4 p) (length-list g bs t 4 q) in
-    rw (e, x, y, z, list-plain g i 4 bs p, list-plain g t 4 bs q, list-plain g (i * t) 2 bs (q + 4 * t))
+    let (u, v, z) = three-parts A B C i t (length-list g bs i 4 p) (length-list g bs t 4 q) in
+    rw (a, b, e, u, v, z, list-plain g i 4 bs p, list-plain g t 4 bs q, list-plain g (i * t) 2 bs (q + 4 * t))
 
 pub some-targets : (i t : ℕ) → 0 < i * t → 0 < t
 some-targets i zero h = absurd (omega (arith, rw mul-zero at h))
 some-targets i (suc t) h = omega arith
 
-pub few-cells : (i t : ℕ) → i ≤ 255 → t ≤ 255 → i * t ≤ 65025
+pub few-cells : (i t : ℕ) → i ≤ most → t ≤ most → i * t ≤ most * most
 few-cells i t a b = mul-le-mul a b
 
 -- row and column of the next cell

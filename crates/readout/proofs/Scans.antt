@@ -11,8 +11,10 @@ use borrow.Author.Tests.{eqb-true, ne-eqb, leb-true}
 use Rattle.format.specs.Bytes.{pick, value, part, refused, given, andThen, unlessFound, over}
 use Rattle.format.specs.Layout.{asIs}
 use Rattle.format.specs.Table.{Table, front, limit, revision}
+use Rattle.format.specs.Form.{Width, most}
 use Rattle.format.specs.Row.{Row, processors, caches, matrices, home, rowType, column, matches, rowOf, isRetired}
 use Rattle.format.specs.Read.{typeIn, framed}
+use Rattle.laws.proofs.Found.{counted-row}
 use Rattle.laws.proofs.Lays.{both-true}
 use Rattle.laws.proofs.Masks.{row-then}
 use Rattle.frames.specs.Frames.{ahead, recordIn}
@@ -29,17 +31,15 @@ small-record t rev ty bs l =
       short = l;
       headed = λ e. leb-true 20 (length bs) (both-true (leb 20 (length bs)) _ (column-of processors e) .0);
       whole = λ e. eqb-true (length bs) 28 (column-of caches e);
-      initiators = λ e. both-of e .0;
-      targets = λ e. both-of e .1;
+      initiators = λ w e. both-of w e .0;
+      targets = λ w e. both-of w e .1;
     }
   where
     column-of : (r : Row) → rowOf t rev ty bs ≡ some r → column r bs ≡ true
     column-of r e = both-true (eqb ty (rowType r)) (column r bs) (both-true (eqb rev (revision (home r))) _ (row-then rev ty bs t r e) .1) .1
 
-    both-of : rowOf t rev ty bs ≡ some matrices → (value (part bs 12 4) ≤ 255) × (value (part bs 16 4) ≤ 255)
-    both-of e =
-        let d = both-true (leb (value (part bs 12 4)) 255) _ (both-true (leb 32 (length bs)) _ (column-of matrices e) .1) in
-        (leb-true (value (part bs 12 4)) 255 (d .0), leb-true (value (part bs 16 4)) 255 (d .1))
+    both-of : (w : Width) → rowOf t rev ty bs ≡ some (matrices w) → (value (part bs 12 4) ≤ most) × (value (part bs 16 4) ≤ most)
+    both-of w e = counted-row w (value (part bs 12 4)) (value (part bs 16 4)) (both-true (leb 32 (length bs)) _ (column-of (matrices w) e) .1) .1
 
 -- what a turn learns that finds the record bs at p, of this row; s is what stands there
 pub record Turn (t : Table) (rev : ℕ) (c : List ℕ) (p : ℕ) (bs : List ℕ) (o : Option Row) : Type 0 where

@@ -1,3 +1,4 @@
+pub mod Bounds
 pub mod Laid
 pub mod Places
 pub mod Answers

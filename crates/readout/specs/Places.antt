@@ -7,10 +7,11 @@ use mathlib.Core.Option.{Option, none, some}
 use lib.ListN.{length}
 use lib.Dec.{eqb, ltb}
 use Rattle.format.specs.Bytes.{pick, Answer, refused, given, andThen, unlessFound, at, value, part}
-use Rattle.format.specs.Layout.{fld, asIs, lay, fieldsWith}
+use Rattle.format.specs.Layout.{asIs, lay, fieldsWith}
 use Rattle.format.specs.Table.{Table, limit, revision}
-use Rattle.format.specs.Form.{Form, layout}
+use Rattle.format.specs.Form.{Form, Width, most, layout}
 use Rattle.format.specs.Row.{Row, processors, caches, matrices, rowOf, formIn, isRetired}
+use Rattle.format.specs.Kind.{Initiator, body}
 use Rattle.format.specs.Normal.{calls, headCall}
 use Rattle.format.specs.Read.{own, typeIn, Frames, ended, badFrame, framedAt}
 use Rattle.format.specs.Build.{fitting}
@@ -25,9 +26,9 @@ ordinalAt t c own v = pick (ltb v own) (numbered 1 v (framesOf t c)) 0
 
 -- ---- records
 
--- a setting of an initiator or a target: kind, index, number
-abbrev pub setting : ℕ → ℕ → ℕ → List ℕ
-setting kind j v = kind ∷ lay (fld 1 ∷ fld 4 ∷ []) (j ∷ v ∷ [])
+-- a setting of an initiator or a target: kind, index of width w, number
+abbrev pub setting : Width → ℕ → ℕ → ℕ → List ℕ
+setting w kind j v = kind ∷ lay (body (Initiator w)) (j ∷ v ∷ [])
 
 -- the calls of a record's node, each reference read by g
 unfoldable pub callsIn : (ℕ → ℕ) → Form → List ℕ → List ℕ
@@ -67,13 +68,13 @@ firstOld t rev (framedAt p bs rest) = pick (isRetired (rowOf t rev (typeIn t bs)
 abbrev pub noted : ℕ → Option ℕ
 noted p = pick (eqb p 0) none (some p)
 
--- no more bytes than a table has, of a processor and a cache the bytes of its fields, and of a matrix no more initiators and targets than its row allows
+-- no more bytes than a table has, of a processor and a cache the bytes of its fields, and of a matrix no more initiators and targets than the most
 pub record Small (row : Option Row) (bs : List ℕ) : Type 0 where
   pub short : length bs ≤ limit
   pub headed : row ≡ some processors → 20 ≤ length bs
   pub whole : row ≡ some caches → length bs ≡ 28
-  pub initiators : row ≡ some matrices → value (part bs 12 4) ≤ 255
-  pub targets : row ≡ some matrices → value (part bs 16 4) ≤ 255
+  pub initiators : (w : Width) → row ≡ some (matrices w) → value (part bs 12 4) ≤ most
+  pub targets : (w : Width) → row ≡ some (matrices w) → value (part bs 16 4) ≤ most
 
 -- ---- the whole table b
 

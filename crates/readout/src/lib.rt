@@ -11,16 +11,18 @@ ghost use Rattle.format.specs.Table.{pptt, limit};
 ghost use Rattle.format.specs.Read.{own};
 ghost use Rattle.format.specs.Build.{fitting, written};
 ghost use Rattle.format.specs.Out.{readOut, outWritten};
-ghost use Rattle.format.specs.Form.{cache};
-ghost use Rattle.format.specs.Row.{processors, matrices, sides, windows, xors, formIn, isRetired};
+ghost use Rattle.format.specs.Form.{cache, matrix, most};
+ghost use Rattle.format.specs.Row.{processors, sides, windows, xors, formIn, isRetired};
 ghost use Rattle.format.specs.Kind as format;
 ghost use Rattle.format.specs.Normal.{call, each, eachSet, settings};
 ghost use Rattle.laws.specs.Offsets.{fieldsAt};
 ghost use Rattle.header.specs.Header.{meant};
+ghost use Rattle.hmat.specs.Widths.{meantWidth};
 ghost use Rattle.marks.specs.Marks.{Every};
 ghost use Rattle.frames.specs.Frames.{Passed};
 ghost use Rattle.rows.specs.Rows.{rowMeant};
 ghost use Rattle.read.specs.Places.{RowOf};
+ghost use Rattle.readout.specs.Bounds.{settingMost, settingsMost, recordMost, far};
 ghost use Rattle.readout.specs.Laid.{Laid};
 ghost use Rattle.readout.specs.Places.{Small, ordinalAt, setting, callsIn, callsAs, isRow, noted, callsAt, measured, recipeAs, outAs};
 ghost use Rattle.readout.specs.Answers.{measuredAs, shown, numberOf, placeOf};
@@ -36,6 +38,7 @@ use hmat::MemoryProximityDomain;
 use hmat::MemorySideCache;
 use hmat::SystemLocality;
 use hmat::Value;
+use hmat::Width;
 use marks::Mark;
 use pptt::CacheHandle;
 use pptt::CacheNode;
@@ -96,7 +99,7 @@ fn put_resources(
     out: &mut [u8],
     at: usize,
 ) -> usize
-    requires { ⌜ Every (Passed pptt (now c)) (now marks) × (n ≤ 1000000) × (at ≤ 2000000000000000) ⌝ }
+    requires { ⌜ Every (Passed pptt (now c)) (now marks) × (n ≤ limit) × (at ≤ 3 * far) ⌝ }
     ensures { λ r. ⌜ Laid (now (out .entry)) (now (out .exit)) at (each format.Resource (fieldsAt (ordinalAt pptt (now (c .entry)) own) (replicate n (to 1)) (now (body .entry)) 20)) r × (r ≤ at + 5 * n) ⌝ }
 {
     let mut p = at;
@@ -113,7 +116,7 @@ fn put_resources(
 
 // The handles of a side cache.
 fn put_handles(body: &[u8], n: usize, out: &mut [u8], at: usize) -> usize
-    requires { ⌜ (n ≤ 1000000) × (at ≤ 2000000000000000) ⌝ }
+    requires { ⌜ (n ≤ limit) × (at ≤ 3 * far) ⌝ }
     ensures { λ r. ⌜ Laid (now (out .entry)) (now (out .exit)) at (each format.Handle (fieldsAt asIs (replicate n (fld 2)) (now (body .entry)) 32)) r × (r ≤ at + 3 * n) ⌝ }
 {
     let mut p = at;
@@ -127,7 +130,7 @@ fn put_handles(body: &[u8], n: usize, out: &mut [u8], at: usize) -> usize
 
 // The targets of a window.
 fn put_targets(body: &[u8], n: usize, out: &mut [u8], at: usize) -> usize
-    requires { ⌜ (n ≤ 1000000) × (at ≤ 2000000000000000) ⌝ }
+    requires { ⌜ (n ≤ limit) × (at ≤ 3 * far) ⌝ }
     ensures { λ r. ⌜ Laid (now (out .entry)) (now (out .exit)) at (each format.WindowTarget (fieldsAt asIs (replicate n (fld 4)) (now (body .entry)) 36)) r × (r ≤ at + 5 * n) ⌝ }
 {
     let mut p = at;
@@ -141,7 +144,7 @@ fn put_targets(body: &[u8], n: usize, out: &mut [u8], at: usize) -> usize
 
 // The maps of XOR mathematics.
 fn put_maps(body: &[u8], n: usize, out: &mut [u8], at: usize) -> usize
-    requires { ⌜ (n ≤ 1000000) × (at ≤ 2000000000000000) ⌝ }
+    requires { ⌜ (n ≤ limit) × (at ≤ 3 * far) ⌝ }
     ensures { λ r. ⌜ Laid (now (out .entry)) (now (out .exit)) at (each format.Map (fieldsAt asIs (replicate n (fld 8)) (now (body .entry)) 8)) r × (r ≤ at + 9 * n) ⌝ }
 {
     let mut p = at;
@@ -154,30 +157,38 @@ fn put_maps(body: &[u8], n: usize, out: &mut [u8], at: usize) -> usize
 }
 
 // The number of an initiator or a target, unless it is the unset one.
-fn put_value(kind: u8, j: usize, v: u32, out: &mut [u8], at: usize) -> usize
-    requires { ⌜ at ≤ 3000000000000000 ⌝ }
-    ensures { λ r. ⌜ Laid (now (out .entry)) (now (out .exit)) at (pick (eqb v 0) [] (setting kind j v)) r × (r ≤ at + 6) ⌝ }
+fn put_value(width: Width, kind: u8, j: usize, v: u32, out: &mut [u8], at: usize) -> usize
+    requires { ⌜ at ≤ 4 * far ⌝ }
+    ensures { λ r. ⌜ Laid (now (out .entry)) (now (out .exit)) at (pick (eqb v 0) [] (setting (meantWidth width) kind j v)) r × (r ≤ at + settingMost) ⌝ }
 {
     if v == Value::UNSET {
         return at;
     }
     let x = Value {
-        idx: (j % 256) as u8,
+        idx: (j % 65536) as u16,
         value: v,
     };
-    at + x.put_body(kind, out, at)
+    at + x.put_body(width, kind, out, at)
 }
 
 // The numbers of a matrix's initiators or targets.
-fn put_values(kind: u8, body: &[u8], start: usize, n: usize, out: &mut [u8], at: usize) -> usize
-    requires { ⌜ (start ≤ 1000000) × (n ≤ 1000000) × (at ≤ 2000000000000000) ⌝ }
-    ensures { λ r. ⌜ Laid (now (out .entry)) (now (out .exit)) at (eachSet (setting kind) 0 0 (fieldsAt asIs (replicate n (fld 4)) (now (body .entry)) start)) r × (r ≤ at + 6 * n) ⌝ }
+fn put_values(
+    width: Width,
+    kind: u8,
+    body: &[u8],
+    start: usize,
+    n: usize,
+    out: &mut [u8],
+    at: usize,
+) -> usize
+    requires { ⌜ (start ≤ limit) × (n ≤ limit) × (at ≤ 3 * far) ⌝ }
+    ensures { λ r. ⌜ Laid (now (out .entry)) (now (out .exit)) at (eachSet (setting (meantWidth width) kind) 0 0 (fieldsAt asIs (replicate n (fld 4)) (now (body .entry)) start)) r × (r ≤ at + settingMost * n) ⌝ }
 {
     let mut from = start;
     let mut p = at;
     let mut i = 0;
     while i < n {
-        p = put_value(kind, i, field::get_u32(body, from), out, p);
+        p = put_value(width, kind, i, field::get_u32(body, from), out, p);
         from += Value::LEN;
         i += 1;
     }
@@ -185,24 +196,24 @@ fn put_values(kind: u8, body: &[u8], start: usize, n: usize, out: &mut [u8], at:
 }
 
 // A cell, unless it is unset.
-fn put_cell(i: usize, j: usize, v: u16, out: &mut [u8], at: usize) -> usize
-    requires { ⌜ at ≤ 3000000000000000 ⌝ }
-    ensures { λ r. ⌜ Laid (now (out .entry)) (now (out .exit)) at (pick (eqb v 65535) [] (call format.Cell (i ∷ j ∷ v ∷ []))) r × (r ≤ at + 5) ⌝ }
+fn put_cell(width: Width, i: usize, j: usize, v: u16, out: &mut [u8], at: usize) -> usize
+    requires { ⌜ at ≤ 4 * far ⌝ }
+    ensures { λ r. ⌜ Laid (now (out .entry)) (now (out .exit)) at (pick (eqb v 65535) [] (call (format.Cell (meantWidth width)) (i ∷ j ∷ v ∷ []))) r × (r ≤ at + settingMost) ⌝ }
 {
     if v == SystemLocality::UNREACHABLE_DOMAIN {
         return at;
     }
     let cell = Cell {
-        initiator_idx: (i % 256) as u8,
-        target_idx: (j % 256) as u8,
+        initiator_idx: (i % 65536) as u16,
+        target_idx: (j % 65536) as u16,
         value: v,
     };
-    at + cell.put_body(out, at)
+    at + cell.put_body(width, out, at)
 }
 
 // The row of the cell behind that of row i and column j, of t columns.
 fn next_row(i: usize, j: usize, t: usize) -> usize
-    requires { ⌜ (i ≤ 1000000) × (j ≤ 1000000) ⌝ }
+    requires { ⌜ (i ≤ limit) × (j ≤ limit) ⌝ }
     ensures { λ r. ⌜ r ≡ pick (eqb (j + 1) t) (i + 1) i ⌝ }
 {
     if j + 1 == t {
@@ -213,7 +224,7 @@ fn next_row(i: usize, j: usize, t: usize) -> usize
 
 // Its column.
 fn next_column(j: usize, t: usize) -> usize
-    requires { ⌜ j ≤ 1000000 ⌝ }
+    requires { ⌜ j ≤ limit ⌝ }
     ensures { λ r. ⌜ r ≡ pick (eqb (j + 1) t) 0 (j + 1) ⌝ }
 {
     if j + 1 == t {
@@ -223,9 +234,17 @@ fn next_column(j: usize, t: usize) -> usize
 }
 
 // The cells of a matrix of t targets, row by row.
-fn put_cells(body: &[u8], start: usize, t: usize, n: usize, out: &mut [u8], at: usize) -> usize
-    requires { ⌜ (0 < n → 0 < t) × (start ≤ 1000000) × (n ≤ 1000000) × (at ≤ 2000000000000000) ⌝ }
-    ensures { λ r. ⌜ Laid (now (out .entry)) (now (out .exit)) at (eachSet (λ e v. call format.Cell (e / t ∷ e % t ∷ v ∷ [])) 65535 0 (fieldsAt asIs (replicate n (fld 2)) (now (body .entry)) start)) r × (r ≤ at + 5 * n) ⌝ }
+fn put_cells(
+    width: Width,
+    body: &[u8],
+    start: usize,
+    t: usize,
+    n: usize,
+    out: &mut [u8],
+    at: usize,
+) -> usize
+    requires { ⌜ (0 < n → 0 < t) × (start ≤ limit) × (n ≤ limit) × (at ≤ 3 * far) ⌝ }
+    ensures { λ r. ⌜ Laid (now (out .entry)) (now (out .exit)) at (eachSet (λ e v. call (format.Cell (meantWidth width)) (e / t ∷ e % t ∷ v ∷ [])) 65535 0 (fieldsAt asIs (replicate n (fld 2)) (now (body .entry)) start)) r × (r ≤ at + settingMost * n) ⌝ }
 {
     let mut from = start;
     let mut p = at;
@@ -233,7 +252,7 @@ fn put_cells(body: &[u8], start: usize, t: usize, n: usize, out: &mut [u8], at: 
     let mut j = 0;
     let mut e = 0;
     while e < n {
-        p = put_cell(i, j, field::get_u16(body, from), out, p);
+        p = put_cell(width, i, j, field::get_u16(body, from), out, p);
         i = next_row(i, j, t);
         j = next_column(j, t);
         from += Cell::LEN;
@@ -254,8 +273,8 @@ fn put_processor(
     out: &mut [u8],
     at: usize,
 ) -> usize
-    requires { ⌜ Every (Passed pptt (now c)) (now marks) × (20 ≤ length (now body)) × (length (now body) ≤ limit) × (at ≤ 1500000000000000) ⌝ }
-    ensures { λ r. ⌜ Laid (now (out .entry)) (now (out .exit)) at (callsIn (ordinalAt pptt (now (c .entry)) own) (formIn processors (now (body .entry))) (now (body .entry))) r × (r ≤ at + 2000000) ⌝ }
+    requires { ⌜ Every (Passed pptt (now c)) (now marks) × (20 ≤ length (now body)) × (length (now body) ≤ limit) × (at ≤ far) ⌝ }
+    ensures { λ r. ⌜ Laid (now (out .entry)) (now (out .exit)) at (callsIn (ordinalAt pptt (now (c .entry)) own) (formIn processors (now (body .entry))) (now (body .entry))) r × (r ≤ at + recordMost) ⌝ }
 {
     let n = ProcessorNode::resources_in(body.len());
     let node = ProcessorNode::get(&body[..ProcessorNode::LEN], 0);
@@ -273,7 +292,7 @@ fn put_cache(
     out: &mut [u8],
     at: usize,
 ) -> usize
-    requires { ⌜ Every (Passed pptt (now c)) (now marks) × (length (now body) ≡ 28) × (at ≤ 1500000000000000) ⌝ }
+    requires { ⌜ Every (Passed pptt (now c)) (now marks) × (length (now body) ≡ 28) × (at ≤ far) ⌝ }
     ensures { λ r. ⌜ Laid (now (out .entry)) (now (out .exit)) at (callsIn (ordinalAt pptt (now (c .entry)) own) cache (now (body .entry))) r × (r ≤ at + 28) ⌝ }
 {
     let node = CacheNode::get(&body[..CacheNode::LEN], 0);
@@ -282,25 +301,28 @@ fn put_cache(
 }
 
 // The lists of a matrix of i initiators and t targets: only what is not unset.
-fn put_settings(body: &[u8], i: usize, t: usize, out: &mut [u8], at: usize) -> usize
-    requires { ⌜ (i ≤ 255) × (t ≤ 255) × (at ≤ 1700000000000000) ⌝ }
-    ensures { λ r. ⌜ ((g : ℕ → ℕ) → Laid (now (out .entry)) (now (out .exit)) at (settings i t (fieldsAt g (replicate (i + t) (fld 4) ++ replicate (i * t) (fld 2)) (now (body .entry)) 32)) r) × (r ≤ at + 1900000) ⌝ }
+fn put_settings(width: Width, body: &[u8], i: usize, t: usize, out: &mut [u8], at: usize) -> usize
+    requires { ⌜ (i ≤ most) × (t ≤ most) × (at ≤ 2 * far) ⌝ }
+    ensures { λ r. ⌜ ((g : ℕ → ℕ) → Laid (now (out .entry)) (now (out .exit)) at (settings (meantWidth width) i t (fieldsAt g (replicate (i + t) (fld 4) ++ replicate (i * t) (fld 2)) (now (body .entry)) 32)) r) × (r ≤ at + settingsMost) ⌝ }
 {
     let initiators = SystemLocality::initiator_place(0, 0);
     let targets = SystemLocality::target_place(0, i, 0);
     let cells = SystemLocality::target_place(0, i, t);
-    let p = put_values(Value::INITIATOR_KIND, body, initiators, i, out, at);
-    let q = put_values(Value::TARGET_KIND, body, targets, t, out, p);
-    put_cells(body, cells, t, i * t, out, q)
+    let initiator = Value::initiator_kind(width);
+    let target = Value::target_kind(width);
+    let p = put_values(width, initiator, body, initiators, i, out, at);
+    let q = put_values(width, target, body, targets, t, out, p);
+    put_cells(width, body, cells, t, i * t, out, q)
 }
 
 fn put_matrix(body: &[u8], out: &mut [u8], at: usize) -> usize
-    requires { ⌜ (value (part (now body) 12 4) ≤ 255) × (value (part (now body) 16 4) ≤ 255) × (at ≤ 1500000000000000) ⌝ }
-    ensures { λ r. ⌜ ((g : ℕ → ℕ) → Laid (now (out .entry)) (now (out .exit)) at (callsIn g (formIn matrices (now (body .entry))) (now (body .entry))) r) × (r ≤ at + 2000000) ⌝ }
+    requires { ⌜ (value (part (now body) 12 4) ≤ most) × (value (part (now body) 16 4) ≤ most) × (at ≤ far) ⌝ }
+    ensures { λ r. ⌜ ((g : ℕ → ℕ) → Laid (now (out .entry)) (now (out .exit)) at (callsIn g (matrix (value (part (now (body .entry)) 12 4)) (value (part (now (body .entry)) 16 4))) (now (body .entry))) r) × (r ≤ at + recordMost) ⌝ }
 {
     let node = SystemLocality::get(body, 0);
     let p = at + node.put_body(out, at);
     put_settings(
+        node.width(),
         body,
         node.initiators as usize,
         node.targets as usize,
@@ -310,8 +332,8 @@ fn put_matrix(body: &[u8], out: &mut [u8], at: usize) -> usize
 }
 
 fn put_side(body: &[u8], out: &mut [u8], at: usize) -> usize
-    requires { ⌜ at ≤ 1500000000000000 ⌝ }
-    ensures { λ r. ⌜ ((g : ℕ → ℕ) → Laid (now (out .entry)) (now (out .exit)) at (callsIn g (formIn sides (now (body .entry))) (now (body .entry))) r) × (r ≤ at + 2000000) ⌝ }
+    requires { ⌜ at ≤ far ⌝ }
+    ensures { λ r. ⌜ ((g : ℕ → ℕ) → Laid (now (out .entry)) (now (out .exit)) at (callsIn g (formIn sides (now (body .entry))) (now (body .entry))) r) × (r ≤ at + recordMost) ⌝ }
 {
     let node = MemorySideCache::get(body, 0);
     let p = at + node.put_body(out, at);
@@ -319,8 +341,8 @@ fn put_side(body: &[u8], out: &mut [u8], at: usize) -> usize
 }
 
 fn put_window(body: &[u8], out: &mut [u8], at: usize) -> usize
-    requires { ⌜ at ≤ 1500000000000000 ⌝ }
-    ensures { λ r. ⌜ ((g : ℕ → ℕ) → Laid (now (out .entry)) (now (out .exit)) at (callsIn g (formIn windows (now (body .entry))) (now (body .entry))) r) × (r ≤ at + 2000000) ⌝ }
+    requires { ⌜ at ≤ far ⌝ }
+    ensures { λ r. ⌜ ((g : ℕ → ℕ) → Laid (now (out .entry)) (now (out .exit)) at (callsIn g (formIn windows (now (body .entry))) (now (body .entry))) r) × (r ≤ at + recordMost) ⌝ }
 {
     let node = CxlFixedMemory::get(body, 0);
     let p = at + node.put_body(out, at);
@@ -328,8 +350,8 @@ fn put_window(body: &[u8], out: &mut [u8], at: usize) -> usize
 }
 
 fn put_maths(body: &[u8], out: &mut [u8], at: usize) -> usize
-    requires { ⌜ at ≤ 1500000000000000 ⌝ }
-    ensures { λ r. ⌜ ((g : ℕ → ℕ) → Laid (now (out .entry)) (now (out .exit)) at (callsIn g (formIn xors (now (body .entry))) (now (body .entry))) r) × (r ≤ at + 2000000) ⌝ }
+    requires { ⌜ at ≤ far ⌝ }
+    ensures { λ r. ⌜ ((g : ℕ → ℕ) → Laid (now (out .entry)) (now (out .exit)) at (callsIn g (formIn xors (now (body .entry))) (now (body .entry))) r) × (r ≤ at + recordMost) ⌝ }
 {
     let node = XorInterleaveMath::get(body, 0);
     let p = at + node.put_body(out, at);
@@ -347,7 +369,7 @@ fn is_known(row: Row) -> bool
         Row::Initiators => true,
         Row::Rintcs => true,
         Row::Domains => true,
-        Row::Matrices => true,
+        Row::Matrices(_) => true,
         Row::Sides => true,
         Row::Bridges => true,
         Row::Windows => true,
@@ -369,7 +391,7 @@ fn is_retired(row: Row) -> bool
         Row::Initiators => false,
         Row::Rintcs => false,
         Row::Domains => false,
-        Row::Matrices => false,
+        Row::Matrices(_) => false,
         Row::Sides => false,
         Row::Bridges => false,
         Row::Windows => false,
@@ -378,7 +400,7 @@ fn is_retired(row: Row) -> bool
     }
 }
 
-// The calls of a record of a row of the table. It has the length that its row asks for, a matrix at most 255 initiators and targets; processors and caches are of a PPTT.
+// The calls of a record of a row of the table. It has the length that its row asks for, a matrix no more initiators and targets than the most; processors and caches are of a PPTT.
 fn put_record(
     t: Table,
     c: &[u8],
@@ -390,8 +412,8 @@ fn put_record(
     out: &mut [u8],
     at: usize,
 ) -> usize
-    requires { ⌜ Every (Passed (meant t) (now c)) (now marks) × RowOf (meant t) (rowMeant row) × Small (rowMeant row) (now body) × (at ≤ 1500000000000000) ⌝ }
-    ensures { λ r. ⌜ Laid (now (out .entry)) (now (out .exit)) at (callsAs (ordinalAt (meant t) (now (c .entry)) own) (rowMeant row) (now (body .entry))) r × (r ≤ at + 2000000) ⌝ }
+    requires { ⌜ Every (Passed (meant t) (now c)) (now marks) × RowOf (meant t) (rowMeant row) × Small (rowMeant row) (now body) × (at ≤ far) ⌝ }
+    ensures { λ r. ⌜ Laid (now (out .entry)) (now (out .exit)) at (callsAs (ordinalAt (meant t) (now (c .entry)) own) (rowMeant row) (now (body .entry))) r × (r ≤ at + recordMost) ⌝ }
 {
     match row {
         Row::Processors => put_processor(c, marks, shift, own, body, out, at),
@@ -400,7 +422,7 @@ fn put_record(
         Row::Initiators => at + GenericInitiator::get(body, 0).put_body(out, at),
         Row::Rintcs => at + RintcAffinity::get(body, 0).put_body(out, at),
         Row::Domains => at + MemoryProximityDomain::get(body, 0).put_body(out, at),
-        Row::Matrices => put_matrix(body, out, at),
+        Row::Matrices(_) => put_matrix(body, out, at),
         Row::Sides => put_side(body, out, at),
         Row::Bridges => at + CxlHostBridge::get(body, 0).put_body(out, at),
         Row::Windows => put_window(body, out, at),
@@ -413,7 +435,7 @@ fn put_record(
 // How many bytes these calls are: the lists of an HMAT or a CEDT are counted over a buffer without room.
 fn calls_len(row: Row, body: &[u8]) -> usize
     requires { ⌜ Small (rowMeant row) (now body) ⌝ }
-    ensures { λ r. ⌜ ((g : ℕ → ℕ) → r ≡ length (callsAs g (rowMeant row) (now (body .entry)))) × (r ≤ 2000000) ⌝ }
+    ensures { λ r. ⌜ ((g : ℕ → ℕ) → r ≡ length (callsAs g (rowMeant row) (now (body .entry)))) × (r ≤ recordMost) ⌝ }
 {
     let mut none = [0u8; 0];
     match row {
@@ -426,7 +448,7 @@ fn calls_len(row: Row, body: &[u8]) -> usize
         Row::Initiators => GenericInitiator::get(body, 0).put_body(&mut none, 0),
         Row::Rintcs => 1 + RintcAffinity::BODY,
         Row::Domains => 1 + MemoryProximityDomain::BODY,
-        Row::Matrices => put_matrix(body, &mut none, 0),
+        Row::Matrices(_) => put_matrix(body, &mut none, 0),
         Row::Sides => put_side(body, &mut none, 0),
         Row::Bridges => 1 + CxlHostBridge::BODY,
         Row::Windows => put_window(body, &mut none, 0),
@@ -571,7 +593,20 @@ fn put_records(t: Table, revision: u8, c: &[u8], marks: &mut [u64], shift: u32, 
     }
 }
 
-// The same with marks of its own: few where a PPTT is too short for as many processors; and one, which nothing asks for, where there are no references.
+// The same with the most marks, and once more for each of again: LLVM does not inline a function that calls itself, so that no other table pays for their room.
+fn put_long(t: Table, revision: u8, c: &[u8], out: &mut [u8], again: u8)
+    requires { ⌜ length (now c) ≤ limit ⌝ }
+    ensures { λ _. ⌜ now (out .exit) ≡ over (now (out .entry)) 28 (callsAt (meant t) revision (now (c .entry))) ⌝ }
+{
+    let shift = marks::spread(c.len(), marks::MOST);
+    let mut most = [0u64; marks::MOST];
+    put_records(t, revision, c, &mut most, shift, out);
+    if 0 < again {
+        put_long(t, revision, c, out, again - 1);
+    }
+}
+
+// The same with marks of its own: few where a PPTT is too short for as many processors, the most where it is long; and one, which nothing asks for, where there are no references.
 fn put_calls(t: Table, revision: u8, c: &[u8], out: &mut [u8])
     requires { ⌜ length (now c) ≤ limit ⌝ }
     ensures { λ _. ⌜ now (out .exit) ≡ over (now (out .entry)) 28 (callsAt (meant t) revision (now (c .entry))) ⌝ }
@@ -583,9 +618,13 @@ fn put_calls(t: Table, revision: u8, c: &[u8], out: &mut [u8])
             put_records(t, revision, c, &mut few, shift, out);
             return;
         }
-        let shift = marks::spread(c.len(), marks::MANY);
-        let mut many = [0u64; marks::MANY];
-        put_records(t, revision, c, &mut many, shift, out);
+        if c.len() <= marks::LONG {
+            let shift = marks::spread(c.len(), marks::MANY);
+            let mut many = [0u64; marks::MANY];
+            put_records(t, revision, c, &mut many, shift, out);
+            return;
+        }
+        put_long(t, revision, c, out, revision / 255);
         return;
     }
     let mut one = [0u64; 1];

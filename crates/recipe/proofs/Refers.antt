@@ -11,7 +11,7 @@ use lib.Dec.{eqb, leb, ltb}
 use borrow.Author.Tests.{lt-ltb, le-ltb, le-leb, lt-leb, ltb-true, ltb-false, eqb-true, eqb-false, ne-eqb}
 use Rattle.format.specs.Bytes.{pick, at}
 use Rattle.format.specs.Table.{Table}
-use Rattle.format.specs.Form.{typeOf}
+use Rattle.format.specs.Form.{Width, typeOf}
 use Rattle.format.specs.Node.{Node, starts, isOrdinal, atOrdinal}
 use Rattle.recipe.specs.declared.State.{State}
 use Rattle.recipe.specs.Machine.{stateOf, typesOf, ofType, Typed}
@@ -75,8 +75,8 @@ module _ {A : Type 0} (a b c : A) where
   once-joined false true o = refl
   once-joined false false o = refl
 
-  module _ (ws : List ℕ) (t : Table) (s : State) (to ty : ℕ) where
-    pub refers-new : (ns : List Node) → s ≡ stateOf t ns → Typed ws (typesOf ns)
+  module _ (ws : List ℕ) (t : Table) (u : Width) (s : State) (to ty : ℕ) where
+    pub refers-new : (ns : List Node) → s ≡ stateOf t u ns → Typed ws (typesOf ns)
         → pick (not (pick (eqb to 0) true (isOrdinal (length ns) to ty))) a (pick (not (pick (eqb to 0) true (atOrdinal (starts t ns) to ty))) b c)
         ≡ pick (not (ltb to (s .nodes + 1))) a (pick (not (pick (eqb to 0) true (ofType ws to ty))) b c)
     refers-new ns e w =
@@ -85,7 +85,7 @@ module _ {A : Type 0} (a b c : A) where
         (once (eqb to 0) (ltb to (suc (length ns))) (eqb (at (typesOf ns) (to - 1)) ty) (λ z. lt-ltb to (suc (length ns)) (omega (arith, eqb-true to 0 z))))
 
     -- of one that joins the newest node
-    pub refers-joined : (n : Node) (ns : List Node) → s ≡ stateOf t (n ∷ ns) → Typed ws (typesOf (n ∷ ns))
+    pub refers-joined : (n : Node) (ns : List Node) → s ≡ stateOf t u (n ∷ ns) → Typed ws (typesOf (n ∷ ns))
         → pick (not (isOrdinal (length ns) to ty)) a (pick (not (atOrdinal (starts t ns) to ty)) b c)
         ≡ pick (eqb to 0) a (pick (not (ltb to (s .nodes))) a (pick (not (ofType ws to ty)) b c))
     unfolding typesOf

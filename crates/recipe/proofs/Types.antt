@@ -56,9 +56,9 @@ bits-more (c ∷ bs) b = rw (pow-succ', bits-more bs b, mul-left-comm b 2) (omeg
 -- ---- words
 
 -- words that are 0 hold no type yet
-pub typed-none : (n : ℕ) → 820 ≤ n → Typed (replicate n 0) []
+pub typed-none : (n : ℕ) → Typed (replicate n 0) []
 unfolding bitsIn
-typed-none n h = record { room = rw length-replicate h; two = tt; bits = λ j. zero-at n j ∙ sym (ap bitsIn (ap (take 64) (drop-nil (64 * j)) ∙ take-nil 64)) }
+typed-none n = record { two = tt; bits = λ j. zero-at n j ∙ sym (ap bitsIn (ap (take 64) (drop-nil (64 * j)) ∙ take-nil 64)) }
   where
     zero-at : (n j : ℕ) → at (replicate n 0) j ≡ 0
     zero-at zero j = refl
@@ -78,9 +78,8 @@ module _ (ws ts : List ℕ) (w : Typed ws ts) where
   length-last : length (drop (64 * last) ts) ≡ length ts % 64
   length-last = rw length-drop (omega arith)
 
-  pub clear-next : length ts < 64 * 820 → Clear ws (length ts)
+  pub clear-next : length ts < 64 * length ws → Clear ws (length ts)
   clear-next l =
-      let r : 820 ≤ length ws = w .room in
       record { there = omega arith; low = rw (w .bits last, ← length-last) (bits-low 64 (drop (64 * last) ts) (bits-drop (64 * last) ts (w .two))) }
 
   -- one type more is in the last word alone
@@ -110,14 +109,14 @@ module _ (ws ts : List ℕ) (w : Typed ws ts) where
         )
 
   pub typed-zero : Typed ws (ts ++ (0 ∷ []))
-  typed-zero = record { room = w .room; two = bits-append ts (0 ∷ []) (w .two) (omega arith, tt); bits = λ j. by j (eqb j last) refl }
+  typed-zero = record { two = bits-append ts (0 ∷ []) (w .two) (omega arith, tt); bits = λ j. by j (eqb j last) refl }
     where
       by : (j : ℕ) (x : Bool) → eqb j last ≡ x → at ws j ≡ bitsIn (take 64 (drop (64 * j) (ts ++ (0 ∷ []))))
       by j true e = rw (eqb-true j last e, last-word 0, zero-mul, add-zero)
       by j false e = w .bits j ∙ sym (ap bitsIn (other-word 0 j (eqb-false j last e)))
 
   pub typed-one : last < length ws → Typed (set ws last (at ws last + 2 ^ (length ts % 64))) (ts ++ (1 ∷ []))
-  typed-one l = record { room = rw length-set (w .room); two = bits-append ts (1 ∷ []) (w .two) (omega arith, tt); bits = λ j. by j (eqb j last) refl }
+  typed-one l = record { two = bits-append ts (1 ∷ []) (w .two) (omega arith, tt); bits = λ j. by j (eqb j last) refl }
     where
       v : ℕ
       v = at ws last + 2 ^ (length ts % 64)

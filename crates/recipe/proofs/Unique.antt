@@ -6,13 +6,14 @@ use mathlib.Core.Option.{Option, none, some}
 use lib.Dec.{eqb}
 use Rattle.format.specs.Bytes.{pick, Answer, refused, given}
 use Rattle.format.specs.Table.{Table}
+use Rattle.format.specs.Form.{byte, pair}
 use Rattle.format.specs.Kind as format
 use Rattle.laws.specs.Unique.{Fixes}
 use Rattle.laws.proofs.Sole.{sole, sole-meant}
 use Rattle.header.specs.Header.{tableNamed}
 use Rattle.header.proofs.Unique.{table-back}
 use Rattle.recipe.specs.declared.Kind.{Kind}
-use Rattle.recipe.specs.declared.Kind.the-variants.{Processor, Resource, Cache, Memory, Acpi, Pci, Rintc, Domain, Matrix, Initiator, Target, Cell, Side, Handle, Bridge, Window, WindowTarget, Xor, Map}
+use Rattle.recipe.specs.declared.Kind.the-variants.{Processor, Resource, Cache, Memory, Acpi, Pci, Rintc, Domain, Matrix, Initiator, Target, Cell, Side, Handle, Bridge, Window, WindowTarget, Xor, Map, WideMatrix, WideInitiator, WideTarget, WideCell}
 use Rattle.recipe.specs.declared.Named.{Named}
 use Rattle.recipe.specs.declared.Named.the-variants as is
 use Rattle.recipe.specs.declared.Refusal.{Refusal}
@@ -37,10 +38,14 @@ kindNamed format.Acpi = Acpi
 kindNamed format.Pci = Pci
 kindNamed format.Rintc = Rintc
 kindNamed format.Domain = Domain
-kindNamed format.Matrix = Matrix
-kindNamed format.Initiator = Initiator
-kindNamed format.Target = Target
-kindNamed format.Cell = Cell
+kindNamed (format.Matrix byte) = Matrix
+kindNamed (format.Matrix pair) = WideMatrix
+kindNamed (format.Initiator byte) = Initiator
+kindNamed (format.Initiator pair) = WideInitiator
+kindNamed (format.Target byte) = Target
+kindNamed (format.Target pair) = WideTarget
+kindNamed (format.Cell byte) = Cell
+kindNamed (format.Cell pair) = WideCell
 kindNamed format.Side = Side
 kindNamed format.Handle = Handle
 kindNamed format.Bridge = Bridge
@@ -59,9 +64,13 @@ kind-back Pci = refl
 kind-back Rintc = refl
 kind-back Domain = refl
 kind-back Matrix = refl
+kind-back WideMatrix = refl
 kind-back Initiator = refl
+kind-back WideInitiator = refl
 kind-back Target = refl
+kind-back WideTarget = refl
 kind-back Cell = refl
+kind-back WideCell = refl
 kind-back Side = refl
 kind-back Handle = refl
 kind-back Bridge = refl

@@ -3,6 +3,7 @@ use mathlib.Core.Path.{_≡_, refl, sym, ap, _∙_}
 use Prim.Native.Nat.{ℕ, suc, _+_, _*_, _/_, _%_, _^_, _≤_, _<_}
 use mathlib.Core.List.{List, [], _∷_}
 use mathlib.Core.Bool.{Bool, true, false}
+use mathlib.Core.Logic.{_⊎_, ⊎-elim}
 use mathlib.Core.Option.{Option, none, some}
 use native.Mathlib.Omega.{arith}
 use lib.ListN.{length, drop, set, drop-of-length-le, length-append, length-drop, length-set}
@@ -11,9 +12,9 @@ use borrow.Author.Tests.{le-ltb, lt-ltb, eq-eqb, ne-eqb, eqb-true, eqb-false, le
 use Rattle.format.specs.Bytes.{pick, at, Answer, refused, given, unless, value, part}
 use Rattle.format.specs.Layout.{asIs, width, fieldsWith, fields, refsGood}
 use Rattle.format.specs.Table.{Table, pptt, srat, hmat, cedt, front, limit, Head, headOf}
-use Rattle.format.specs.Form.{Form, processor, cache, memory, acpi, pci, rintc, oldRintc, domain, matrix, side, bridge, window, xor, typeOf, size}
+use Rattle.format.specs.Form.{Form, processor, cache, memory, acpi, pci, rintc, oldRintc, domain, matrix, side, bridge, window, xor, typeOf, size, Width, byte, pair, octets}
 use Rattle.format.specs.Node.{Node, sizes}
-use Rattle.format.specs.Kind.{Kind, Processor, Resource, Cache, Memory, Acpi, Pci, Rintc, Domain, Matrix, Initiator, Target, Cell, Side, Handle, Bridge, Window, WindowTarget, Xor, Map, kindNumber, kindOf, noKind, body}
+use Rattle.format.specs.Kind.{Kind, Processor, Resource, Cache, Memory, Acpi, Pci, Rintc, Domain, Matrix, Initiator, Target, Cell, Side, Handle, Bridge, Window, WindowTarget, Xor, Map, kindNumber, kindOf, noKind, body, partIn, widthBehind}
 use Rattle.format.specs.Recipe.{Newest, aList, aMatrix, other, newest, Calls, cutOff, called, cutAs, skip, cut, joined, setting, step, added, fault, faultAt, since, lacking, means, run, tableOf, headed, meaning}
 use Rattle.laws.proofs.Bytes.{value-byte}
 use Rattle.laws.proofs.Finds.{never, unless-given}
@@ -26,6 +27,8 @@ use Rattle.laws.proofs.Calls.{cut-at}
 use Rattle.laws.proofs.Links.{few-nodes}
 use Rattle.header.specs.declared.Table.the-variants.{Hmat}
 use Rattle.header.specs.Header.{meant, tableNamed}
+use Rattle.hmat.specs.declared.Width as code
+use Rattle.hmat.specs.Widths.{meantWidth}
 use Rattle.hmat.specs.Settings.{goodCell}
 use Rattle.recipe.specs.declared.Newest.the-variants as is
 use Rattle.recipe.specs.declared.Refusal.{Refusal}
@@ -33,10 +36,10 @@ use Rattle.recipe.specs.declared.State.{State}
 use Rattle.recipe.specs.declared.Step.{Step}
 use Rattle.recipe.specs.declared.Step.the-variants.{Next, Refused, BadField}
 use Rattle.recipe.specs.Answers.{number, outlined}
-use Rattle.recipe.specs.Machine.{newestKept, lacks, stateOf, Sound, Begun, endedWith, typesOf, Bits, Typed, Clear, noted, stepped, TurnsWith, whole, Stands}
+use Rattle.recipe.specs.Machine.{newestKept, lacks, stateOf, Sound, Begun, endedWith, typesOf, Bits, leastRecord, Roomy, Typed, Clear, noted, stepped, TurnsWith, whole, Stands}
 use Rattle.recipe.proofs.Types.{bits-parts, clear-next, typed-zero, typed-one}
 use Rattle.recipe.proofs.Refers.{length-types}
-use Rattle.recipe.proofs.Steps.{set-turn}
+use Rattle.recipe.proofs.Steps.{set-turn, kept-width}
 
 -- ---- the types of the nodes with one record more
 
@@ -49,6 +52,16 @@ types-resource vs seesSide h = never h
 types-resource vs seesWindow h = never h
 types-resource vs seesXor h = never h
 types-resource vs seesOther h = never h
+
+-- nor how many there are
+few-resource : {ns : List Node} {x : Newest} (vs : List ℕ) → View ns x → joined Resource vs x .placed ≡ true → length (joined Resource vs x .nodes) ≤ length ns
+unfolding joined
+few-resource vs seesProcessor h = omega arith
+few-resource vs seesMatrix h = never h
+few-resource vs seesSide h = never h
+few-resource vs seesWindow h = never h
+few-resource vs seesXor h = never h
+few-resource vs seesOther h = never h
 
 -- a record of under 20 bytes has no type that is a bit
 long-enough : (f : Form) → typeOf f < 2 → 20 ≤ size f
@@ -74,23 +87,23 @@ fewer (n ∷ ns) h =
     let (x, y) = bits-parts (typesOf ns) (typeOf (n .form) ∷ []) h in
     omega (arith, fewer ns x, long-enough (n .form) (y .0))
 
--- there is a clear bit for the next node of a PPTT
-next-clear : (ws : List ℕ) (ns : List Node) → sizes ns ≤ limit → Typed ws (typesOf ns) → Clear ws (length ns)
-next-clear ws ns l w =
-    rw (length-types ns) at (clear-next ws (typesOf ns) w (omega (arith, length-types ns, fewer ns (w .two))))
+-- there is a clear bit for the next node of a PPTT: its record has room in the recipe yet, and its node in the table
+next-clear : (r ws : List ℕ) (ns : List Node) → sizes ns ≤ limit → leastRecord * length ns < length r → Roomy ws r → Typed ws (typesOf ns) → Clear ws (length ns)
+next-clear r ws ns l m o w =
+    rw (length-types ns) at (clear-next ws (typesOf ns) w (rw (length-types ns) (⊎-elim (λ x. omega (arith, fewer ns (w .two))) (λ x. omega arith) o)))
 
 -- one record more of a PPTT: what is noted are the types then
-types-added : (b : ℕ) (k : Kind) (vs : List ℕ) (ns : List Node) (ws : List ℕ)
-    → kindOf pptt b ≡ some k → step k vs ns .placed ≡ true → sizes ns ≤ limit → Typed ws (typesOf ns) → Typed (noted k (length ns) ws) (typesOf (added k vs ns))
+types-added : (r : List ℕ) (b : ℕ) (k : Kind) (vs : List ℕ) (ns : List Node) (ws : List ℕ)
+    → kindOf pptt b ≡ some k → step k vs ns .placed ≡ true → sizes ns ≤ limit → leastRecord * length ns < length r → Roomy ws r → Typed ws (typesOf ns) → Typed (noted k (length ns) ws) (typesOf (added k vs ns))
 unfolding kindOf step typesOf
-types-added b k vs ns ws e h l w = by (eqb b 16) (eqb b 17) (eqb b 18) e
+types-added r b k vs ns ws e h l m o w = by (eqb b 16) (eqb b 17) (eqb b 18) e
   where
     by : (x y z : Bool) → pick x (some Processor) (pick y (some Resource) (pick z (some Cache) none)) ≡ some k → Typed (noted k (length ns) ws) (typesOf (added k vs ns))
     by true y z e = let q : Processor ≡ k = cc in rw (← q) (typed-zero ws (typesOf ns) w)
     by false true z e = let q : Resource ≡ k = cc in rw (← q, types-resource vs (view ns) (rw (← q) at h)) w
     by false false true e =
         let q : Cache ≡ k = cc in
-        rw (← q, ← length-types ns) (typed-one ws (typesOf ns) w (rw length-types (next-clear ws ns l w .there)))
+        rw (← q, ← length-types ns) (typed-one ws (typesOf ns) w (rw length-types (next-clear r ws ns l m o w .there)))
     by false false false e = absurd (let z : _≡_ {A = ℕ} 0 1 = cc in omega arith)
 
 pub length-noted : (k : Kind) (i : ℕ) (ws : List ℕ) → length (noted k i ws) ≡ length ws
@@ -99,6 +112,21 @@ length-noted k i ws = by (eqb (kindNumber k) (kindNumber Cache))
     by : (x : Bool) → length (pick x (set ws (i / 64) (at ws (i / 64) + 2 ^ (i % 64))) ws) ≡ length ws
     by true = length-set ws (i / 64) _
     by false = refl
+
+pub roomy-noted : (k : Kind) (i : ℕ) (ws r : List ℕ) → Roomy ws r → Roomy (noted k i ws) r
+roomy-noted k i ws r o = rw (length-noted k i ws) o
+
+-- a record of a PPTT that makes a node has so many bytes at least
+few-added : (b : ℕ) (k : Kind) (vs : List ℕ) (ns : List Node) → kindOf pptt b ≡ some k → step k vs ns .placed ≡ true
+    → leastRecord * length (added k vs ns) ≤ leastRecord * length ns + (1 + width (body k))
+unfolding kindOf step width body
+few-added b k vs ns e h = by (eqb b 16) (eqb b 17) (eqb b 18) e
+  where
+    by : (x y z : Bool) → pick x (some Processor) (pick y (some Resource) (pick z (some Cache) none)) ≡ some k → leastRecord * length (added k vs ns) ≤ leastRecord * length ns + (1 + width (body k))
+    by true y z e = let q : Processor ≡ k = cc in rw (← q) (omega arith)
+    by false true z e = let q : Resource ≡ k = cc in rw (← q) (omega (arith, few-resource vs (view ns) (rw (← q) at h)))
+    by false false true e = let q : Cache ≡ k = cc in rw (← q) (omega arith)
+    by false false false e = absurd (let z : _≡_ {A = ℕ} 0 1 = cc in omega arith)
 
 -- ---- windows
 
@@ -160,10 +188,10 @@ begun-added Acpi bs ns g = tt
 begun-added Pci bs ns g = tt
 begun-added Rintc bs ns g = tt
 begun-added Domain bs ns g = tt
-begun-added Matrix bs ns g = tt
-begun-added Initiator bs ns g = begun-setting _ _ _ (newest ns)
-begun-added Target bs ns g = begun-setting _ _ _ (newest ns)
-begun-added Cell bs ns g = begun-setting _ _ _ (newest ns)
+begun-added (Matrix w) bs ns g = tt
+begun-added (Initiator w) bs ns g = begun-setting _ _ _ (newest ns)
+begun-added (Target w) bs ns g = begun-setting _ _ _ (newest ns)
+begun-added (Cell w) bs ns g = begun-setting _ _ _ (newest ns)
 begun-added Side bs ns g = other-list Handle refl
 begun-added Handle bs ns g = begun-handle _ (view ns)
 begun-added Bridge bs ns g = tt
@@ -173,14 +201,14 @@ begun-added Xor bs ns g = other-list Map refl
 begun-added Map bs ns g = begun-map _ (view ns)
 
 -- what the newest node lacks, by what is kept of it
-lacks-as : {ns : List Node} {x : Newest} → View ns x → (o : Option Kind) → lacking x o ≡ pick (lacks (newestKept x) o) 11 0
+lacks-as : (u : Width) {ns : List Node} {x : Newest} → View ns x → (o : Option Kind) → lacking x o ≡ pick (lacks (newestKept u x) o) 11 0
 unfolding lacking
-lacks-as (seesProcessor {n} {us} {ns}) o = needless Resource 58 n (processor (suc n)) us ns o
-lacks-as seesMatrix o = refl
-lacks-as (seesSide {n} {us} {ns}) o = needless Handle 65535 n (side (suc n)) us ns o
-lacks-as seesWindow o = refl
-lacks-as (seesXor {n} {us} {ns}) o = needless Map 255 n (xor (suc n)) us ns o
-lacks-as seesOther o = refl
+lacks-as u (seesProcessor {n} {us} {ns}) o = needless Resource 58 n (processor (suc n)) us ns o
+lacks-as u seesMatrix o = refl
+lacks-as u (seesSide {n} {us} {ns}) o = needless Handle 65535 n (side (suc n)) us ns o
+lacks-as u seesWindow o = refl
+lacks-as u (seesXor {n} {us} {ns}) o = needless Map 255 n (xor (suc n)) us ns o
+lacks-as u seesOther o = refl
 
 -- ---- the pass
 
@@ -202,9 +230,9 @@ refused-also f q n p x b e = go (eqb f 0) e
         (rw (i, j), j)
 
 module _ (r : List ℕ) (h : Head) where
-  pub starts-so : (ws : List ℕ) → (h .table ≡ pptt → Typed ws []) → Stands r h 0 28 (stateOf (h .table) []) ws
+  pub starts-so : (ws : List ℕ) → (h .table ≡ pptt → Roomy ws r × Typed ws []) → Stands r h 0 28 (stateOf (h .table) byte []) ws
   unfolding typesOf sizes
-  starts-so ws z = record { nodes = []; is = refl; short = front-short (h .table); knows = record { typed = z; begun = tt }; same = refl }
+  starts-so ws z = record { nodes = []; width = byte; is = refl; short = front-short (h .table); few = λ t. omega arith; roomy = λ t. z t .0; knows = record { typed = λ t. z t .1; begun = tt }; same = refl }
 
   module _ (q p : ℕ) (s : State) (ws : List ℕ) (w : Stands r h q p s ws) where
     pub sound : Sound s
@@ -214,7 +242,7 @@ module _ (r : List ℕ) (h : Head) where
         rw (w .is) (record { short = l; few = omega arith })
 
     lacking-as : (o : Option Kind) → lacking (newest (w .nodes)) o ≡ pick (lacks (s .newest) o) 11 0
-    lacking-as o = rw (w .is) (lacks-as (view (w .nodes)) o)
+    lacking-as o = rw (w .is) (lacks-as (w .width) (view (w .nodes)) o)
 
     pub ends : length r ≤ p → outlined (whole r h) ≡ endedWith s q
     unfolding cut run
@@ -233,11 +261,11 @@ module _ (r : List ℕ) (h : Head) where
           rest : Calls
           rest = cut (h .table) 0 (p + 1 + skip (kindOf (h .table) (at r p))) (drop (p + 1 + skip (kindOf (h .table) (at r p))) r)
 
-          by : (o : Option Kind) → lacks (s .newest) o ≡ true → run h q (w .nodes) (cutAs o (noKind (h .table) (at r p)) (drop (p + 1) r) p rest) ≡ refused 11 q
+          by : (o : Option Kind) → lacks (s .newest) o ≡ true → run h q (w .width) (w .nodes) (cutAs o (noKind (h .table) (at r p)) (drop (p + 1) r) p rest) ≡ refused 11 q
           by none e = rw (lacking-as none, e)
           by (some k) e = long (ltb (length (drop (p + 1) r)) (width (body k)))
             where
-              long : (x : Bool) → run h q (w .nodes) (pick x (cutOff p k) (called p k (fields (body k) (drop (p + 1) r)) rest)) ≡ refused 11 q
+              long : (x : Bool) → run h q (w .width) (w .nodes) (pick x (cutOff p k) (called p k (fields (body k) (drop (p + 1) r)) rest)) ≡ refused 11 q
               long true = rw (lacking-as (some k), e)
               long false = rw (lacking-as (some k), e)
 
@@ -255,19 +283,19 @@ module _ (r : List ℕ) (h : Head) where
           vs = fields (body k) (drop (p + 1) r)
 
           n : ℕ
-          n = fault (h .table) (w .nodes) k vs
+          n = fault (h .table) (w .width) (w .nodes) k vs
 
           place : ℕ
           place = p + faultAt n k (step k vs (w .nodes) .ranges)
 
-          called-at : whole r h ≡ unless n place (run h (since (w .nodes) (added k vs (w .nodes)) p q) (added k vs (w .nodes)) (cut (h .table) 0 (p + 1 + width (body k)) (drop (p + 1 + width (body k)) r)))
+          called-at : whole r h ≡ unless n place (run h (since (w .nodes) (added k vs (w .nodes)) p q) (widthBehind (partIn k) (w .width)) (added k vs (w .nodes)) (cut (h .table) 0 (p + 1 + width (body k)) (drop (p + 1 + width (body k)) r)))
           unfolding cutAs run vs n place
           called-at = w .same ∙ rw (cut-at (h .table) r p l, e, le-ltb _ _ c, lacking-as (some k), f)
 
           module _ (x : Step) (d : TurnsWith ws k (drop (p + 1) r) s x) where
-            turned : stepped p x ≡ unless n place (given (stateOf (h .table) (added k vs (w .nodes))))
+            turned : stepped p x ≡ unless n place (given (stateOf (h .table) (widthBehind (partIn k) (w .width)) (added k vs (w .nodes))))
             unfolding vs n place
-            turned = d (h .table) (w .nodes) p (w .is) (at r p) e (w .knows)
+            turned = d (h .table) (w .width) (w .nodes) p (w .is) (at r p) e (w .knows)
 
             pub stops : (f : Refusal) → x ≡ Refused f → whole r h ≡ refused (number f) p
             stops f i = called-at ∙ refused-also n place (number f) p _ _ (rw i at turned) .0
@@ -285,52 +313,74 @@ module _ (r : List ℕ) (h : Head) where
             pub goes : (s′ : State) → x ≡ Next s′ → Stands r h (pick (eqb (s′ .nodes) (s .nodes)) q p) (p + 1 + width (body k)) s′ (noted k (s .nodes) ws)
             unfolding vs n place
             goes s′ i =
-                let (z, g) = unless-given n place (given (stateOf (h .table) (added k vs (w .nodes)))) (sym (rw i at turned)) in
-                let is : s′ ≡ stateOf (h .table) (added k vs (w .nodes)) = cc in
-                let y = passed (h .table) (w .nodes) k vs z in
-                let l : sizes (w .nodes) ≤ limit = omega (arith, w .short) in
+                let (z, g) = unless-given n place (given (stateOf (h .table) (widthBehind (partIn k) (w .width)) (added k vs (w .nodes)))) (sym (rw i at turned)) in
+                let is : s′ ≡ stateOf (h .table) (widthBehind (partIn k) (w .width)) (added k vs (w .nodes)) = cc in
+                let y = passed (h .table) (w .width) (w .nodes) k vs z in
+                let small : sizes (w .nodes) ≤ limit = omega (arith, w .short) in
                 record {
                   nodes = added k vs (w .nodes);
+                  width = widthBehind (partIn k) (w .width);
                   is = is;
                   short = y .short;
+                  few = λ t. omega (arith, few-added (at r p) k vs (w .nodes) (rw t at e) (y .place), w .few t);
+                  roomy = λ t. rw (w .is) (roomy-noted k (length (w .nodes)) ws r (w .roomy t));
                   knows =
                       record {
-                        typed = λ t. rw (w .is) (types-added (at r p) k vs (w .nodes) ws (rw t at e) (y .place) l (w .knows .typed t));
+                        typed = λ t. rw (w .is) (types-added r (at r p) k vs (w .nodes) ws (rw t at e) (y .place) small (omega (arith, w .few t)) (w .roomy t) (w .knows .typed t));
                         begun = begun-added k (drop (p + 1) r) (w .nodes) (w .knows .begun);
                       };
                   same = called-at ∙ rw (z, is, w .is);
                 }
 
         pub clear : k ≡ Cache → Clear ws (s .nodes)
-        clear i = rw (w .is) (next-clear ws (w .nodes) (omega (arith, w .short)) (w .knows .typed (sym (kind-home (h .table) (at r p) Cache (rw i at e)))))
+        clear i =
+            let t = sym (kind-home (h .table) (at r p) Cache (rw i at e)) in
+            rw (w .is) (next-clear r ws (w .nodes) (omega (arith, w .short)) (omega (arith, w .few t)) (w .roomy t) (w .knows .typed t))
 
-pub cell-fits : (r : List ℕ) (p i t : ℕ) → goodCell r p i t ≡ true → p + 5 ≤ length r
-cell-fits r p i t good = leb-true (p + 5) (length r) (both-true (leb (p + 5) (length r)) _ (both-true (eqb (at r p) 52) _ good .1) .0)
+pub cell-fits : (w : Width) (r : List ℕ) (p i t : ℕ) → goodCell w r p i t ≡ true → suc p + width (body (Cell w)) ≤ length r
+cell-fits w r p i t good =
+    leb-true (suc p + width (body (Cell w))) (length r) (both-true (leb (suc p + width (body (Cell w))) (length r)) _ (both-true (eqb (at r p) (kindNumber (Cell w))) _ good .1) .0)
+
+cell-kind : (w : Width) → kindOf hmat (kindNumber (Cell w)) ≡ some (Cell w)
+unfolding kindOf
+cell-kind byte = refl
+cell-kind pair = refl
+
+noted-cell : (w : Width) (i : ℕ) (ws : List ℕ) → noted (Cell w) i ws ≡ ws
+noted-cell byte i ws = refl
+noted-cell pair i ws = refl
+
+-- the indices of a cell's record, where its body begins
+cell-indices : (w : Width) (r : List ℕ) (p : ℕ) → (at (fields (body (Cell w)) (drop p r)) 0 ≡ value (part r p (octets w))) × (at (fields (body (Cell w)) (drop p r)) 1 ≡ value (part r (p + octets w) (octets w)))
+unfolding body
+cell-indices w r p = rw (fields-at asIs (body (Cell w)) r p) (refl, refl)
 
 -- a good cell leaves the state as it is
-module _ (r : List ℕ) (h : Head) (q p : ℕ) (s : State) (ws : List ℕ) (w : Stands r h q p s ws) (i t : ℕ) (own : s .table ≡ Hmat) (behind : s .newest ≡ is.Matrix i t) (good : goodCell r p i t ≡ true) where
-  tests : (at r p ≡ 52) × (ltb (at r (p + 1)) i ≡ true) × (ltb (at r (p + 2)) t ≡ true)
+module _ (r : List ℕ) (h : Head) (q p : ℕ) (s : State) (ws : List ℕ) (w : Stands r h q p s ws) (x : code.Width) (i t : ℕ) (own : s .table ≡ Hmat) (behind : s .newest ≡ is.Matrix x i t)
+    (good : goodCell (meantWidth x) r p i t ≡ true) where
+  tests : (at r p ≡ kindNumber (Cell (meantWidth x))) × (ltb (value (part r (p + 1) (octets (meantWidth x)))) i ≡ true) × (ltb (value (part r (p + 1 + octets (meantWidth x)) (octets (meantWidth x)))) t ≡ true)
   tests =
-      let (a, x) = both-true (eqb (at r p) 52) _ good in
-      let (c, d) = both-true (ltb (at r (p + 1)) i) _ (both-true (leb (p + 5) (length r)) _ x .1) in
-      (eqb-true (at r p) 52 a, c, d)
+      let v = meantWidth x in
+      let (a, y) = both-true (eqb (at r p) (kindNumber (Cell v))) _ good in
+      let (c, d) = both-true (ltb (value (part r (p + 1) (octets v))) i) _ (both-true (leb (suc p + width (body (Cell v))) (length r)) _ y .1) in
+      (eqb-true (at r p) (kindNumber (Cell v)) a, c, d)
 
-  named : kindOf (h .table) (at r p) ≡ some Cell
-  unfolding kindOf
-  named = let m : meant (s .table) ≡ h .table = rw (w .is) (meant-named (h .table)) in rw (← m, own, tests .0)
+  named : kindOf (h .table) (at r p) ≡ some (Cell (meantWidth x))
+  named = let m : meant (s .table) ≡ h .table = rw (w .is) (meant-named (h .table)) in rw (← m, own, tests .0) (cell-kind (meantWidth x))
 
-  turns : TurnsWith ws Cell (drop (p + 1) r) s (Next s)
+  turns : TurnsWith ws (Cell (meantWidth x)) (drop (p + 1) r) s (Next s)
   unfolding body step refsGood
-  turns u ns m e b z y =
-      let two : p + 1 + 1 ≡ p + 2 = omega arith in
-      sym (set-turn u s m (drop (p + 1) r) i t Cell _ _ _ (sound r h q p s ws w) (λ ms. refl) (λ ok vs. refl) ns e behind
-      ∙ rw (fields-at asIs (body Cell) r (p + 1), two, ← value-byte r (p + 1), ← value-byte r (p + 2), tests .1, tests .2))
+  turns b u ns m e k z y =
+      let v = meantWidth x in
+      let (c, d) = cell-indices v r (p + 1) in
+      sym (set-turn b u s m (drop (p + 1) r) v i t (Cell v) refl _ _ _ (sound r h q p s ws w) (λ ms. refl) (λ ok vs. refl) ns x e behind
+      ∙ rw (← kept-width b u ns s x i t e behind, eq-eqb (octets v) (octets v) refl, c, d, tests .1, tests .2))
 
-  pub cell-passed : Stands r h q (p + 1 + 4) s ws
-  unfolding width body
+  pub cell-passed : Stands r h q (p + 1 + width (body (Cell (meantWidth x)))) s ws
   cell-passed =
-      let l : p + 5 ≤ length r = cell-fits r p i t good in
-      rw (eq-eqb (s .nodes) (s .nodes) refl) at (goes r h q p s ws w (omega arith) Cell named (rw behind refl) (rw length-drop (omega arith)) (Next s) turns s refl)
+      let v = meantWidth x in
+      let l : suc p + width (body (Cell v)) ≤ length r = cell-fits v r p i t good in
+      rw (eq-eqb (s .nodes) (s .nodes) refl, noted-cell v (s .nodes) ws) at (goes r h q p s ws w (omega arith) (Cell v) named (rw behind refl) (rw length-drop (omega arith)) (Next s) turns s refl)
 
 -- ---- the head
 

@@ -6,12 +6,13 @@ use mathlib.Core.Option.{Option, none, some}
 use lib.ListN.{drop}
 use Rattle.format.specs.Bytes.{at}
 use Rattle.format.specs.Layout.{Item, fix, fld, two, to, orNone, arity, fields}
+use Rattle.format.specs.Form.{byte, pair}
 use Rattle.format.specs.Kind.{body}
 use Rattle.format.specs.Kind as format
 use Rattle.recipe.specs.declared.Reference.{Reference}
 use Rattle.recipe.specs.declared.Reference.the-variants as names
 use Rattle.recipe.specs.declared.Kind.{Kind}
-use Rattle.recipe.specs.declared.Kind.the-variants.{Processor, Resource, Cache, Memory, Acpi, Pci, Rintc, Domain, Matrix, Initiator, Target, Cell, Side, Handle, Bridge, Window, WindowTarget, Xor, Map}
+use Rattle.recipe.specs.declared.Kind.the-variants.{Processor, Resource, Cache, Memory, Acpi, Pci, Rintc, Domain, Matrix, Initiator, Target, Cell, Side, Handle, Bridge, Window, WindowTarget, Xor, Map, WideMatrix, WideInitiator, WideTarget, WideCell}
 use Rattle.recipe.specs.declared.Named.{Named}
 use Rattle.recipe.specs.declared.Named.the-variants.{As, Retired, Nothing}
 
@@ -24,10 +25,10 @@ meantKind Acpi = format.Acpi
 meantKind Pci = format.Pci
 meantKind Rintc = format.Rintc
 meantKind Domain = format.Domain
-meantKind Matrix = format.Matrix
-meantKind Initiator = format.Initiator
-meantKind Target = format.Target
-meantKind Cell = format.Cell
+meantKind Matrix = format.Matrix byte
+meantKind Initiator = format.Initiator byte
+meantKind Target = format.Target byte
+meantKind Cell = format.Cell byte
 meantKind Side = format.Side
 meantKind Handle = format.Handle
 meantKind Bridge = format.Bridge
@@ -35,6 +36,10 @@ meantKind Window = format.Window
 meantKind WindowTarget = format.WindowTarget
 meantKind Xor = format.Xor
 meantKind Map = format.Map
+meantKind WideMatrix = format.Matrix pair
+meantKind WideInitiator = format.Initiator pair
+meantKind WideTarget = format.Target pair
+meantKind WideCell = format.Cell pair
 
 abbrev pub named : Named → Option format.Kind
 named (As k) = some (meantKind k)
@@ -57,10 +62,10 @@ naming format.Acpi vs = names.Nothing
 naming format.Pci vs = names.Nothing
 naming format.Rintc vs = names.Nothing
 naming format.Domain vs = names.Nothing
-naming format.Matrix vs = names.Nothing
-naming format.Initiator vs = names.Nothing
-naming format.Target vs = names.Nothing
-naming format.Cell vs = names.Nothing
+naming (format.Matrix w) vs = names.Nothing
+naming (format.Initiator w) vs = names.Nothing
+naming (format.Target w) vs = names.Nothing
+naming (format.Cell w) vs = names.Nothing
 naming format.Side vs = names.Nothing
 naming format.Handle vs = names.Nothing
 naming format.Bridge vs = names.Nothing

@@ -3,17 +3,19 @@ use mathlib.Core.Path.{_≡_}
 use Prim.Native.Nat.{ℕ, _+_, _-_, _*_, _/_, _%_, _^_, _≤_, _<_}
 use mathlib.Core.List.{List, [], _∷_, _++_}
 use mathlib.Core.Bool.{Bool, false, not}
+use mathlib.Core.Logic.{_⊎_}
 use mathlib.Core.Option.{Option, none, some}
 use lib.ListN.{length, take, drop, set}
 use lib.Dec.{eqb, ltb}
 use Rattle.format.specs.Bytes.{pick, both, at, Answer, refused, given, unless}
 use Rattle.format.specs.Layout.{fields}
 use Rattle.format.specs.Table.{Table, front, limit, pptt, Head}
-use Rattle.format.specs.Form.{typeOf}
+use Rattle.format.specs.Form.{Width, byte, typeOf}
 use Rattle.format.specs.Node.{Node, sizes}
-use Rattle.format.specs.Kind.{Kind, Processor, Resource, Cache, Memory, Acpi, Pci, Rintc, Domain, Matrix, Initiator, Target, Cell, Side, Handle, Bridge, Window, WindowTarget, Xor, Map, kindNumber, kindOf, isKind, body}
+use Rattle.format.specs.Kind.{Kind, Processor, Resource, Cache, Memory, Acpi, Pci, Rintc, Domain, Matrix, Initiator, Target, Cell, Side, Handle, Bridge, Window, WindowTarget, Xor, Map, kindNumber, kindOf, isKind, body, partIn, widthBehind}
 use Rattle.format.specs.Recipe.{Newest, aList, aMatrix, other, newest, step, added, fault, faultAt, cut, Meaning, run}
 use Rattle.header.specs.Header.{meant, tableNamed}
+use Rattle.hmat.specs.Widths.{widthNamed}
 use Rattle.recipe.specs.declared.Newest as kept
 use Rattle.recipe.specs.declared.Newest.the-variants as is
 use Rattle.recipe.specs.declared.State.{State}
@@ -35,10 +37,10 @@ listKept Acpi needs n = is.Other
 listKept Pci needs n = is.Other
 listKept Rintc needs n = is.Other
 listKept Domain needs n = is.Other
-listKept Matrix needs n = is.Other
-listKept Initiator needs n = is.Other
-listKept Target needs n = is.Other
-listKept Cell needs n = is.Other
+listKept (Matrix w) needs n = is.Other
+listKept (Initiator w) needs n = is.Other
+listKept (Target w) needs n = is.Other
+listKept (Cell w) needs n = is.Other
 listKept Side needs n = is.Other
 listKept Handle needs n = is.Side n
 listKept Bridge needs n = is.Other
@@ -47,23 +49,23 @@ listKept WindowTarget needs n = is.Window needs n
 listKept Xor needs n = is.Other
 listKept Map needs n = is.Xor n
 
--- the newest node without its fields
-abbrev pub newestKept : Newest → kept.Newest
-newestKept (aList k needs most n f us ns) = listKept k needs n
-newestKept (aMatrix i t us ns) = is.Matrix i t
-newestKept other = is.Other
+-- the newest node without its fields; w: how wide a matrix's counts are written
+abbrev pub newestKept : Width → Newest → kept.Newest
+newestKept w (aList k needs most n f us ns) = listKept k needs n
+newestKept w (aMatrix i t us ns) = is.Matrix (widthNamed w) i t
+newestKept w other = is.Other
 
 -- it lacks entries, and what comes is none; o: the kind that comes, if any
 abbrev pub lacks : kept.Newest → Option Kind → Bool
 lacks (is.Processor n) o = false
-lacks (is.Matrix i t) o = false
+lacks (is.Matrix w i t) o = false
 lacks (is.Side n) o = false
 lacks (is.Window needs n) o = both (ltb n needs) (not (isKind WindowTarget o))
 lacks (is.Xor n) o = false
 lacks is.Other o = false
 
-abbrev pub stateOf : Table → List Node → State
-stateOf t ns = record { table = tableNamed t; nodes = length ns; length = front t + sizes ns; newest = newestKept (newest ns) }
+abbrev pub stateOf : Table → Width → List Node → State
+stateOf t w ns = record { table = tableNamed t; nodes = length ns; length = front t + sizes ns; newest = newestKept w (newest ns) }
 
 -- the sums of a state stay in their bounds
 pub record Sound (s : State) : Type 0 where
@@ -109,9 +111,19 @@ bitsIn (b ∷ bs) = b + 2 * bitsIn bs
 abbrev pub bitAt : List ℕ → ℕ → ℕ
 bitAt ws i = at ws (i / 64) / 2 ^ (i % 64) % 2
 
--- the words hold these types; 820 have a bit for every node of a PPTT: limit / 20 / 64 + 1
+-- the shortest node of a PPTT, a processor without resources, has so many bytes in a table, and so many in a recipe
+abbrev pub leastNode : ℕ
+leastNode = 20
+
+abbrev pub leastRecord : ℕ
+leastRecord = 13
+
+-- the words have a bit for every node of a PPTT within the limit, or for every node that the recipe has room for
+abbrev pub Roomy : List ℕ → List ℕ → Type 0
+Roomy ws r = (limit < leastNode * (64 * length ws)) ⊎ (length r < leastRecord * (64 * length ws))
+
+-- the words hold these types
 pub record Typed (ws ts : List ℕ) : Type 0 where
-  pub room : 820 ≤ length ws
   pub two : Bits ts
   pub bits : (j : ℕ) → at ws j ≡ bitsIn (take 64 (drop (64 * j) ts))
 
@@ -140,19 +152,19 @@ stepped p (Refused f) = refused (number f) p
 stepped p (BadField by) = refused 5 (p + by)
 
 -- what a record of kind k at place p, with the body bs, does behind the nodes ns
-abbrev pub turn : Table → List Node → Kind → List ℕ → ℕ → Answer State
-turn t ns k bs p =
+abbrev pub turn : Table → Width → List Node → Kind → List ℕ → ℕ → Answer State
+turn t w ns k bs p =
     let vs : List ℕ = fields (body k) bs in
-    let n : ℕ = fault t ns k vs in
-    unless n (p + faultAt n k (step k vs ns .ranges)) (given (stateOf t (added k vs ns)))
+    let n : ℕ = fault t w ns k vs in
+    unless n (p + faultAt n k (step k vs ns .ranges)) (given (stateOf t (widthBehind (partIn k) w) (added k vs ns)))
 
 -- a step is that turn, whatever the nodes are that the state stands for
 abbrev pub Turns : Kind → List ℕ → State → Step → Type 0
-Turns k bs s r = (t : Table) (ns : List Node) (p : ℕ) → s ≡ stateOf t ns → stepped p r ≡ turn t ns k bs p
+Turns k bs s r = (t : Table) (w : Width) (ns : List Node) (p : ℕ) → s ≡ stateOf t w ns → stepped p r ≡ turn t w ns k bs p
 
 -- where a window has its fields
 abbrev pub TurnsBegun : Kind → List ℕ → State → Step → Type 0
-TurnsBegun k bs s r = (t : Table) (ns : List Node) (p : ℕ) → s ≡ stateOf t ns → Begun (newest ns) → stepped p r ≡ turn t ns k bs p
+TurnsBegun k bs s r = (t : Table) (w : Width) (ns : List Node) (p : ℕ) → s ≡ stateOf t w ns → Begun (newest ns) → stepped p r ≡ turn t w ns k bs p
 
 -- what the pass knows of the nodes: the words hold the types of a PPTT's, and a window has its fields
 pub record Knows (ws : List ℕ) (t : Table) (ns : List Node) : Type 0 where
@@ -162,18 +174,22 @@ pub record Knows (ws : List ℕ) (t : Table) (ns : List Node) : Type 0 where
 -- where the kind is one of the table's, and the pass knows this
 abbrev pub TurnsWith : List ℕ → Kind → List ℕ → State → Step → Type 0
 TurnsWith ws k bs s r =
-    (t : Table) (ns : List Node) (p : ℕ) → s ≡ stateOf t ns → (b : ℕ) → kindOf t b ≡ some k → Knows ws t ns → stepped p r ≡ turn t ns k bs p
+    (t : Table) (w : Width) (ns : List Node) (p : ℕ) → s ≡ stateOf t w ns → (b : ℕ) → kindOf t b ≡ some k → Knows ws t ns → stepped p r ≡ turn t w ns k bs p
 
 -- ---- all records
 
 -- what the records behind the head mean
 abbrev pub whole : List ℕ → Head → Answer Meaning
-whole r h = run h 0 [] (cut (h .table) 0 28 (drop 28 r))
+whole r h = run h 0 byte [] (cut (h .table) 0 28 (drop 28 r))
 
 -- what the state at a place stands for, and the words; q: the place of the newest node's record
 pub record Stands (r : List ℕ) (h : Head) (q p : ℕ) (s : State) (ws : List ℕ) : Type 0 where
   pub nodes : List Node
-  pub is : s ≡ stateOf (h .table) nodes
+  pub width : Width
+  pub is : s ≡ stateOf (h .table) width nodes
   pub short : front (h .table) + sizes nodes ≤ limit
+  -- each node of a PPTT has a record of its own
+  pub few : h .table ≡ pptt → leastRecord * length nodes ≤ p
+  pub roomy : h .table ≡ pptt → Roomy ws r
   pub knows : Knows ws (h .table) nodes
-  pub same : whole r h ≡ run h q nodes (cut (h .table) 0 p (drop p r))
+  pub same : whole r h ≡ run h q width nodes (cut (h .table) 0 p (drop p r))

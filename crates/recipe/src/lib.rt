@@ -10,11 +10,14 @@ ghost use Rattle.format.specs.Layout.{width};
 ghost use Rattle.format.specs.Table.{pptt, limit, Head, headOf};
 ghost use Rattle.format.specs.Kind.{kindNumber, kindOf, retired, body};
 ghost use Rattle.format.specs.Recipe.{cut, run, meaning};
+ghost use Rattle.format.specs.Form.{byte, pair};
+ghost use Rattle.format.specs.Form as form;
 ghost use Rattle.format.specs.Kind as format;
 ghost use Rattle.header.specs.Header.{meant};
+ghost use Rattle.hmat.specs.Widths.{meantWidth};
 ghost use Rattle.recipe.specs.Kinds.{meantKind, named, isRetired, referenceOf};
 ghost use Rattle.recipe.specs.Answers.{number, shown, outlined};
-ghost use Rattle.recipe.specs.Machine.{stateOf, Sound, lacks, endedWith, grown, madeBy, bitAt, Clear, noted, ofType, Typed, Turns, TurnsBegun, TurnsWith, Stands};
+ghost use Rattle.recipe.specs.Machine.{stateOf, Sound, lacks, endedWith, grown, madeBy, bitAt, Clear, noted, ofType, Roomy, Typed, Turns, TurnsBegun, TurnsWith, Stands};
 use cedt::CxlFixedMemory;
 use cedt::CxlHostBridge;
 use cedt::CxlTarget;
@@ -29,6 +32,7 @@ use hmat::MemorySideCache;
 use hmat::SmbiosHandle;
 use hmat::SystemLocality;
 use hmat::Value;
+use hmat::Width;
 use pptt::CacheHandle;
 use pptt::CacheNode;
 use pptt::ProcessorHandle;
@@ -67,6 +71,11 @@ pub enum Kind {
     WindowTarget,
     Xor,
     Map,
+    // with counts or indices of two bytes: a variant each, since one with a width in it costs each record 50 instructions
+    WideMatrix,
+    WideInitiator,
+    WideTarget,
+    WideCell,
 }
 
 // What a kind byte stands for: a kind, one that is retired, or nothing.
@@ -108,6 +117,10 @@ impl Kind {
             Kind::WindowTarget => CxlTarget::BODY,
             Kind::Xor => XorInterleaveMath::BODY,
             Kind::Map => XorMap::BODY,
+            Kind::WideMatrix => SystemLocality::WIDE_BODY,
+            Kind::WideInitiator => Value::WIDE_BODY,
+            Kind::WideTarget => Value::WIDE_BODY,
+            Kind::WideCell => Cell::WIDE_BODY,
         }
     }
 
@@ -138,6 +151,10 @@ impl Kind {
             Kind::WindowTarget => Reference::Nothing,
             Kind::Xor => Reference::Nothing,
             Kind::Map => Reference::Nothing,
+            Kind::WideMatrix => Reference::Nothing,
+            Kind::WideInitiator => Reference::Nothing,
+            Kind::WideTarget => Reference::Nothing,
+            Kind::WideCell => Reference::Nothing,
         }
     }
 }
@@ -179,7 +196,7 @@ fn of_srat(table: Table, byte: u8) -> Named
 }
 
 fn of_hmat(table: Table, byte: u8) -> Named
-    requires { ⌜ (kindNumber format.Domain ≤ byte) × (byte ≤ kindNumber format.Handle) ⌝ }
+    requires { ⌜ (kindNumber format.Domain ≤ byte) × (byte ≤ kindNumber (format.Cell pair)) ⌝ }
     ensures { λ r. ⌜ named r ≡ kindOf (meant table) byte ⌝ }
     ensures { λ r. ⌜ isRetired r ≡ has (retired (meant table)) byte ⌝ }
 {
@@ -193,7 +210,11 @@ fn of_hmat(table: Table, byte: u8) -> Named
             Value::TARGET_KIND => Named::As(Kind::Target),
             Cell::KIND => Named::As(Kind::Cell),
             MemorySideCache::KIND => Named::As(Kind::Side),
-            _ => Named::As(Kind::Handle),
+            SmbiosHandle::KIND => Named::As(Kind::Handle),
+            SystemLocality::WIDE_KIND => Named::As(Kind::WideMatrix),
+            Value::WIDE_INITIATOR_KIND => Named::As(Kind::WideInitiator),
+            Value::WIDE_TARGET_KIND => Named::As(Kind::WideTarget),
+            _ => Named::As(Kind::WideCell),
         },
         Table::Cedt => Named::Nothing,
     }
@@ -226,7 +247,7 @@ pub fn kind_of(table: Table, byte: u8) -> Named
     match byte {
         ProcessorNode::KIND..=CacheNode::KIND => of_pptt(table, byte),
         MemoryAffinity::KIND..=RintcAffinity::KIND => of_srat(table, byte),
-        MemoryProximityDomain::KIND..=SmbiosHandle::KIND => of_hmat(table, byte),
+        MemoryProximityDomain::KIND..=Cell::WIDE_KIND => of_hmat(table, byte),
         CxlHostBridge::KIND..=XorMap::KIND => of_cedt(table, byte),
         _ => Named::Nothing,
     }
@@ -271,7 +292,8 @@ pub enum Checked {
 // The newest node, if a record can join it, with its counts.
 enum Newest {
     Processor(u8),
-    Matrix(u32, u32),
+    // how wide its counts are written, I and T
+    Matrix(Width, u32, u32),
     Side(u16),
     // how many targets it needs, and has
     Window(u8, u8),
@@ -318,7 +340,7 @@ enum Step {
 impl State {
     // Of no nodes.
     fn new(table: Table) -> Self
-        ensures { λ r. ⌜ r ≡ stateOf (meant table) [] ⌝ }
+        ensures { λ r. ⌜ ((w : form.Width) → r ≡ stateOf (meant table) w []) ⌝ }
     {
         Self {
             table,
@@ -384,6 +406,11 @@ impl State {
 
 // The words that hold a bit for each node of a PPTT, at 64 a word: its shortest node is a processor without resources.
 const WORDS: usize = header::LIMIT / ProcessorNode::LEN / 64 + 1;
+
+// Fewer, which are sooner cleared, for a recipe below so many bytes: each node has a record of its own.
+const FEW_WORDS: usize = 820;
+
+const FEW_BYTES: usize = (1 + ProcessorNode::BODY) * 64 * FEW_WORDS;
 
 // The type of node i of a PPTT, counted from 0: a bit.
 fn type_at(types: &[u64], i: usize) -> u8
@@ -499,57 +526,70 @@ fn cache(types: &[u64], bytes: &[u8], st: State) -> Step
 
 // ---- HMAT
 
-fn matrix(bytes: &[u8], st: State) -> Step
+fn matrix(width: Width, bytes: &[u8], st: State) -> Step
     requires { ⌜ Sound st ⌝ }
-    ensures { λ r. ⌜ Turns format.Matrix (now (bytes .entry)) st r ⌝ }
+    ensures { λ r. ⌜ Turns (format.Matrix (meantWidth width)) (now (bytes .entry)) st r ⌝ }
 {
-    let node = SystemLocality::from_body(bytes);
-    st.made(
-        node.bad_field(),
+    let node = SystemLocality::from_body(width, bytes);
+    let bad = node.bad_field();
+    if bad != 0 {
+        return Step::BadField(bad);
+    }
+    st.grown(
+        st.nodes + 1,
         node.len(),
-        Newest::Matrix(node.initiators, node.targets),
+        Newest::Matrix(width, node.initiators, node.targets),
     )
 }
 
-fn initiator(bytes: &[u8], st: State) -> Step
+fn initiator(width: Width, bytes: &[u8], st: State) -> Step
     requires { ⌜ Sound st ⌝ }
-    ensures { λ r. ⌜ Turns format.Initiator (now (bytes .entry)) st r ⌝ }
+    ensures { λ r. ⌜ Turns (format.Initiator (meantWidth width)) (now (bytes .entry)) st r ⌝ }
 {
     let newest = st.newest;
-    let Newest::Matrix(i, _) = newest else {
+    let Newest::Matrix(counted, i, _) = newest else {
         return Step::Refused(Refusal::Misplaced);
     };
-    let bad = Value::from_body(bytes).bad_field(i);
+    if !width.is(counted) {
+        return Step::Refused(Refusal::Misplaced);
+    }
+    let bad = Value::from_body(width, bytes).bad_field(i);
     if bad != 0 {
         return Step::BadField(bad);
     }
     Step::Next(st)
 }
 
-fn target(bytes: &[u8], st: State) -> Step
+fn target(width: Width, bytes: &[u8], st: State) -> Step
     requires { ⌜ Sound st ⌝ }
-    ensures { λ r. ⌜ Turns format.Target (now (bytes .entry)) st r ⌝ }
+    ensures { λ r. ⌜ Turns (format.Target (meantWidth width)) (now (bytes .entry)) st r ⌝ }
 {
     let newest = st.newest;
-    let Newest::Matrix(_, t) = newest else {
+    let Newest::Matrix(counted, _, t) = newest else {
         return Step::Refused(Refusal::Misplaced);
     };
-    let bad = Value::from_body(bytes).bad_field(t);
+    if !width.is(counted) {
+        return Step::Refused(Refusal::Misplaced);
+    }
+    let bad = Value::from_body(width, bytes).bad_field(t);
     if bad != 0 {
         return Step::BadField(bad);
     }
     Step::Next(st)
 }
 
-fn cell(bytes: &[u8], st: State) -> Step
+fn cell(width: Width, bytes: &[u8], st: State) -> Step
     requires { ⌜ Sound st ⌝ }
-    ensures { λ r. ⌜ Turns format.Cell (now (bytes .entry)) st r ⌝ }
+    ensures { λ r. ⌜ Turns (format.Cell (meantWidth width)) (now (bytes .entry)) st r ⌝ }
 {
     let newest = st.newest;
-    let Newest::Matrix(i, t) = newest else {
+    let Newest::Matrix(counted, i, t) = newest else {
         return Step::Refused(Refusal::Misplaced);
     };
-    let bad = Cell::from_body(bytes).bad_field(i, t);
+    if !width.is(counted) {
+        return Step::Refused(Refusal::Misplaced);
+    }
+    let bad = Cell::from_body(width, bytes).bad_field(width, i, t);
     if bad != 0 {
         return Step::BadField(bad);
     }
@@ -645,10 +685,10 @@ fn judge(types: &[u64], kind: Kind, bytes: &[u8], st: State) -> Step
             Newest::Other,
         ),
         Kind::Domain => st.made(0, MemoryProximityDomain::LEN, Newest::Other),
-        Kind::Matrix => matrix(&bytes[..SystemLocality::BODY], st),
-        Kind::Initiator => initiator(&bytes[..Value::BODY], st),
-        Kind::Target => target(&bytes[..Value::BODY], st),
-        Kind::Cell => cell(&bytes[..Cell::BODY], st),
+        Kind::Matrix => matrix(Width::Byte, &bytes[..SystemLocality::BODY], st),
+        Kind::Initiator => initiator(Width::Byte, &bytes[..Value::BODY], st),
+        Kind::Target => target(Width::Byte, &bytes[..Value::BODY], st),
+        Kind::Cell => cell(Width::Byte, &bytes[..Cell::BODY], st),
         Kind::Side => st.made(
             MemorySideCache::from_body(&bytes[..MemorySideCache::BODY]).bad_field(),
             MemorySideCache::LEN,
@@ -668,6 +708,10 @@ fn judge(types: &[u64], kind: Kind, bytes: &[u8], st: State) -> Step
             Newest::Xor(0),
         ),
         Kind::Map => map(st),
+        Kind::WideMatrix => matrix(Width::Pair, &bytes[..SystemLocality::WIDE_BODY], st),
+        Kind::WideInitiator => initiator(Width::Pair, &bytes[..Value::WIDE_BODY], st),
+        Kind::WideTarget => target(Width::Pair, &bytes[..Value::WIDE_BODY], st),
+        Kind::WideCell => cell(Width::Pair, &bytes[..Cell::WIDE_BODY], st),
     }
 }
 
@@ -680,20 +724,21 @@ fn past_cells(recipe: &[u8], from: usize, st: State) -> usize
         return from;
     };
     let newest = st.newest;
-    let Newest::Matrix(i, t) = newest else {
+    let Newest::Matrix(width, i, t) = newest else {
         return from;
     };
+    let len = 1 + Cell::body_len(width);
     let mut at = from;
-    while Cell::stands(recipe, at, i, t) {
-        at = at + 1 + Cell::BODY;
+    while Cell::stands(recipe, at, width, i, t) {
+        at = at + len;
     }
     at
 }
 
 // The records behind the head; types: a bit for each node of a PPTT, all 0.
 fn walk(recipe: &[u8], table: Table, types: &mut [u64]) -> Checked
-    requires { ⌜ (meant table ≡ pptt → Typed (now types) []) ⌝ }
-    ensures { λ r. ⌜ shown r ≡ outlined (run (headOf (meant table) (part (now (recipe .entry)) 2 26)) 0 [] (cut (meant table) 0 28 (drop 28 (now (recipe .entry))))) ⌝ }
+    requires { ⌜ (meant table ≡ pptt → Roomy (now types) (now recipe) × Typed (now types) []) ⌝ }
+    ensures { λ r. ⌜ shown r ≡ outlined (run (headOf (meant table) (part (now (recipe .entry)) 2 26)) 0 byte [] (cut (meant table) 0 28 (drop 28 (now (recipe .entry))))) ⌝ }
 {
     let mut at = HEAD_LEN;
     let mut made = 0;
@@ -731,6 +776,18 @@ fn walk(recipe: &[u8], table: Table, types: &mut [u64]) -> Checked
     st.ended(made)
 }
 
+// The same of a long recipe, of a PPTT, with words for as many nodes as a table can have. LLVM does not inline a function that calls itself,
+// so that no other recipe pays for this room: the answer is asked for again where a byte of the head that the compiler does not know is 255.
+fn walk_long(recipe: &[u8], table: Table, again: u8) -> Checked
+    ensures { λ r. ⌜ shown r ≡ outlined (run (headOf (meant table) (part (now (recipe .entry)) 2 26)) 0 byte [] (cut (meant table) 0 28 (drop 28 (now (recipe .entry))))) ⌝ }
+{
+    let answer = walk(recipe, table, &mut [0u64; WORDS]);
+    if 0 < again {
+        return walk_long(recipe, table, again - 1);
+    }
+    answer
+}
+
 // Judges a whole recipe.
 pub fn check(recipe: &[u8]) -> Checked
     ensures { λ r. ⌜ shown r ≡ outlined (meaning (now (recipe .entry))) ⌝ }
@@ -747,5 +804,8 @@ pub fn check(recipe: &[u8]) -> Checked
     let Table::Pptt = table else {
         return walk(recipe, table, &mut [0u64; 1]);
     };
-    walk(recipe, table, &mut [0u64; WORDS])
+    if recipe.len() < FEW_BYTES {
+        return walk(recipe, table, &mut [0u64; FEW_WORDS]);
+    }
+    walk_long(recipe, table, field::get_u8(recipe, CODE_AT + 1) / 255)
 }

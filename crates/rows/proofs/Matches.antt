@@ -7,6 +7,7 @@ use mathlib.Core.Option.{Option, none, some}
 use borrow.Author.Tests.{ne-eqb}
 use Rattle.format.specs.Bytes.{pick, value, part}
 use Rattle.format.specs.Table.{Table, pptt, srat, hmat, cedt, revision, frame}
+use Rattle.format.specs.Form.{byte, pair}
 use Rattle.format.specs.Row.{processors, caches, memories, initiators, oldRintcs, domains, matrices, sides, bridges, windows, xors, rintcs, home, rowType, column, matches, rowOf, known}
 use Rattle.format.specs.Row as format
 use Rattle.format.specs.Read.{typeIn}
@@ -27,7 +28,7 @@ Alone memories = Unit
 Alone initiators = Unit
 Alone oldRintcs = ⊥
 Alone domains = Unit
-Alone matrices = Unit
+Alone (matrices w) = ⊥
 Alone sides = Unit
 Alone bridges = Unit
 Alone windows = Unit
@@ -42,7 +43,7 @@ by-type memories bs a = refl
 by-type initiators bs a = refl
 by-type oldRintcs bs a = absurd a
 by-type domains bs a = refl
-by-type matrices bs a = refl
+by-type (matrices w) bs a = absurd a
 by-type sides bs a = refl
 by-type bridges bs a = refl
 by-type windows bs a = refl
@@ -62,6 +63,12 @@ pub by-columns : {rev x : ℕ} (bs : List ℕ) → rev ≡ 3 → x ≡ value (pa
     → pick (column oldRintcs bs) (some oldRintcs) (pick (column rintcs bs) (some rintcs) none) ≡ rowOf srat rev (typeIn srat bs) bs
 unfolding rowOf matches part
 by-columns bs e f g = let t : typeIn srat bs ≡ 7 = sym f ∙ g in sym (rw (e, t))
+
+-- of the two matrices likewise
+pub by-counts : {rev x : ℕ} (bs : List ℕ) → rev ≡ 1 → x ≡ value (part bs 0 2) → x ≡ 1
+    → pick (column (matrices byte) bs) (some (matrices byte)) (pick (column (matrices pair) bs) (some (matrices pair)) none) ≡ rowOf hmat rev (typeIn hmat bs) bs
+unfolding rowOf matches part
+by-counts bs e f g = let t : typeIn hmat bs ≡ 1 = sym f ∙ g in sym (rw (e, t))
 
 -- the mask chooses the row, or none
 pub known-pick : (mask : ℕ) (o : Option format.Row) → known mask o ≡ pick (knowsAs mask o) o none

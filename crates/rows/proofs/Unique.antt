@@ -5,6 +5,8 @@ use Rattle.format.specs.Row.{processors, caches, memories, initiators, oldRintc
 use Rattle.format.specs.Row as format
 use Rattle.laws.specs.Unique.{Fixes}
 use Rattle.laws.proofs.Sole.{sole, sole-meant}
+use Rattle.hmat.specs.declared.Width.the-variants.{Byte, Pair}
+use Rattle.hmat.specs.Widths.{widthNamed}
 use Rattle.rows.specs.declared.Row.{Row}
 use Rattle.rows.specs.declared.Row.the-variants.{Processors, Caches, Memories, Initiators, OldRintcs, Domains, Matrices, Sides, Bridges, Windows, Xors, Rintcs, Unknown}
 use Rattle.rows.specs.Rows.{rowMeant}
@@ -21,7 +23,7 @@ rowNamed (some memories) = Memories
 rowNamed (some initiators) = Initiators
 rowNamed (some oldRintcs) = OldRintcs
 rowNamed (some domains) = Domains
-rowNamed (some matrices) = Matrices
+rowNamed (some (matrices w)) = Matrices (widthNamed w)
 rowNamed (some sides) = Sides
 rowNamed (some bridges) = Bridges
 rowNamed (some windows) = Windows
@@ -35,7 +37,8 @@ row-back Memories = refl
 row-back Initiators = refl
 row-back OldRintcs = refl
 row-back Domains = refl
-row-back Matrices = refl
+row-back (Matrices Byte) = refl
+row-back (Matrices Pair) = refl
 row-back Sides = refl
 row-back Bridges = refl
 row-back Windows = refl

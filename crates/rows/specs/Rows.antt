@@ -6,6 +6,7 @@ use mathlib.Core.Option.{Option, none, some}
 use Rattle.format.specs.Row.{processors, caches, memories, initiators, oldRintcs, domains, matrices, sides, bridges, windows, xors, rintcs, formIn}
 use Rattle.format.specs.Row as format
 use Rattle.format.specs.Read.{sound}
+use Rattle.hmat.specs.Widths.{meantWidth}
 use Rattle.rows.specs.declared.Row.{Row}
 use Rattle.rows.specs.declared.Row.the-variants.{Processors, Caches, Memories, Initiators, OldRintcs, Domains, Matrices, Sides, Bridges, Windows, Xors, Rintcs, Unknown}
 
@@ -17,7 +18,7 @@ rowMeant Memories = some memories
 rowMeant Initiators = some initiators
 rowMeant OldRintcs = some oldRintcs
 rowMeant Domains = some domains
-rowMeant Matrices = some matrices
+rowMeant (Matrices w) = some (matrices (meantWidth w))
 rowMeant Sides = some sides
 rowMeant Bridges = some bridges
 rowMeant Windows = some windows

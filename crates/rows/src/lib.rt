@@ -3,9 +3,11 @@ ghost use mathlib.Core.Path.{_≡_};
 ghost use mathlib.Core.Option.{none, some};
 ghost use Rattle.format.specs.Bytes.{pick};
 ghost use Rattle.format.specs.Table.{pptt, srat, hmat, cedt};
-ghost use Rattle.format.specs.Row.{oldRintcs, rintcs, column, rowOf, known};
+ghost use Rattle.format.specs.Form.{byte, pair};
+ghost use Rattle.format.specs.Row.{oldRintcs, rintcs, matrices, column, rowOf, knows, known};
 ghost use Rattle.format.specs.Read.{typeIn, partOf};
 ghost use Rattle.header.specs.Header.{meant};
+ghost use Rattle.hmat.specs.Widths.{meantWidth};
 ghost use Rattle.rows.specs.Rows.{rowMeant, soundAs, knowsAs};
 use cedt::CxlFixedMemory;
 use cedt::CxlHostBridge;
@@ -14,6 +16,7 @@ use header::Table;
 use hmat::MemoryProximityDomain;
 use hmat::MemorySideCache;
 use hmat::SystemLocality;
+use hmat::Width;
 use pptt::CacheNode;
 use pptt::ProcessorNode;
 use srat::GenericInitiator;
@@ -29,7 +32,8 @@ pub enum Row {
     Initiators,
     OldRintcs,
     Domains,
-    Matrices,
+    // with counts that a recipe writes in this width
+    Matrices(Width),
     Sides,
     Bridges,
     Windows,
@@ -64,6 +68,8 @@ impl Row {
 
     const RINTCS_BIT: u32 = 2048;
 
+    const WIDE_MATRICES_BIT: u32 = 4096;
+
     // The row, if a test says so.
     fn when(self, test: bool) -> Self
         ensures { λ r. ⌜ rowMeant r ≡ pick test (rowMeant self) none ⌝ }
@@ -72,6 +78,16 @@ impl Row {
             return self;
         }
         Row::Unknown
+    }
+
+    // Whether the mask has the matrices of a width.
+    fn matrices_in(width: Width, mask: u32) -> bool
+        ensures { λ r. ⌜ r ≡ knows mask (matrices (meantWidth width)) ⌝ }
+    {
+        match width {
+            Width::Byte => mask / Row::MATRICES_BIT % 2 == 1,
+            Width::Pair => mask / Row::WIDE_MATRICES_BIT % 2 == 1,
+        }
     }
 
     // Whether the mask has the row.
@@ -85,7 +101,7 @@ impl Row {
             Row::Initiators => mask / Row::INITIATORS_BIT % 2 == 1,
             Row::OldRintcs => mask / Row::OLD_RINTCS_BIT % 2 == 1,
             Row::Domains => mask / Row::DOMAINS_BIT % 2 == 1,
-            Row::Matrices => mask / Row::MATRICES_BIT % 2 == 1,
+            Row::Matrices(width) => Row::matrices_in(width, mask),
             Row::Sides => mask / Row::SIDES_BIT % 2 == 1,
             Row::Bridges => mask / Row::BRIDGES_BIT % 2 == 1,
             Row::Windows => mask / Row::WINDOWS_BIT % 2 == 1,
@@ -135,6 +151,16 @@ fn srat_row(revision: u8, body: &[u8]) -> Row
     }
 }
 
+// Two rows have one type: the counts tell them apart.
+fn matrix_row(body: &[u8]) -> Row
+    ensures { λ r. ⌜ rowMeant r ≡ pick (column (matrices byte) (now (body .entry))) (some (matrices byte)) (pick (column (matrices pair) (now (body .entry))) (some (matrices pair)) none) ⌝ }
+{
+    if SystemLocality::fits(Width::Byte, body) {
+        return Row::Matrices(Width::Byte);
+    }
+    Row::Matrices(Width::Pair).when(SystemLocality::fits(Width::Pair, body))
+}
+
 fn hmat_row(revision: u8, body: &[u8]) -> Row
     ensures { λ r. ⌜ rowMeant r ≡ rowOf hmat revision (typeIn hmat (now (body .entry))) (now (body .entry)) ⌝ }
 {
@@ -143,7 +169,7 @@ fn hmat_row(revision: u8, body: &[u8]) -> Row
     }
     match frames::long_type(body) {
         MemoryProximityDomain::TYPE => Row::Domains.when(body.len() == MemoryProximityDomain::LEN),
-        SystemLocality::TYPE => Row::Matrices.when(SystemLocality::fits(body)),
+        SystemLocality::TYPE => matrix_row(body),
         MemorySideCache::TYPE => Row::Sides.when(MemorySideCache::fits(body)),
         _ => Row::Unknown,
     }
@@ -195,7 +221,7 @@ pub fn sound(row: Row, body: &[u8]) -> bool
         Row::Initiators => GenericInitiator::is_sound(body),
         Row::OldRintcs => OldRintcAffinity::is_sound(body),
         Row::Domains => MemoryProximityDomain::is_fixed(body),
-        Row::Matrices => SystemLocality::is_sound(body),
+        Row::Matrices(_) => SystemLocality::is_sound(body),
         Row::Sides => MemorySideCache::is_sound(body),
         Row::Bridges => CxlHostBridge::is_sound(body),
         Row::Windows => CxlFixedMemory::is_sound(body),
@@ -211,7 +237,7 @@ pub fn part<'a>(row: Row, body: &'a [u8]) -> &'a [u8]
 {
     match row {
         Row::Processors => field::rest(body, ProcessorNode::LEN),
-        Row::Matrices => field::rest(body, SystemLocality::LEN),
+        Row::Matrices(_) => field::rest(body, SystemLocality::LEN),
         Row::Sides => field::rest(body, MemorySideCache::LEN),
         Row::Windows => field::rest(body, CxlFixedMemory::LEN),
         Row::Xors => field::rest(body, XorInterleaveMath::LEN),

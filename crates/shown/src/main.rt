@@ -1,4 +1,5 @@
-// Prints all that each of the stored tables says, under its name: those of the demonstration, others with every field, refused ones.
+// Prints all that each of the stored tables says, under its name: those of the demonstration, others with every field, refused
+// ones, and matrices of which only the ends are shown.
 use libc::STDOUT_FILENO;
 
 // A table under its name.
@@ -14,7 +15,7 @@ fn show(path: &[u8]) {
     let mut space = prints::room();
     let n = io::read_full(fd, &mut space);
     libc::close(fd);
-    shows::show(&space[..n]);
+    shows::show(&space[..n], false);
 }
 
 // The table that an argument names.
@@ -41,4 +42,5 @@ fn main() {
     argument(13);
     argument(14);
     argument(15);
+    argument(16);
 }

@@ -56,7 +56,7 @@ fn unknown(part: &[u8]) {
 }
 
 // The name of the row of the record at a place, and its fields; of an unknown one its bytes.
-fn fields(table: &[u8], place: usize, node: Node) {
+fn fields(table: &[u8], place: usize, node: Node, all: bool) {
     match node {
         Node::Processor(n) => nodes::processor(table, place, n),
         Node::Cache(n) => nodes::cache(table, n),
@@ -64,7 +64,7 @@ fn fields(table: &[u8], place: usize, node: Node) {
         Node::Initiator(n) => affinities::initiator(n),
         Node::OldRintc(n) => affinities::old_rintc(n),
         Node::Domain(n) => localities::domain(n),
-        Node::Matrix(n) => localities::matrix(table, place, n),
+        Node::Matrix(n) => localities::matrix(table, place, n, all),
         Node::Side(n) => localities::side(table, place, n),
         Node::Bridge(n) => windows::bridge(n),
         Node::Window(n) => windows::window(table, place, n),
@@ -84,7 +84,7 @@ fn counts(node: Node) -> bool {
 }
 
 // Record i: its number, place, type, length and row, then its fields.
-fn record(table: &[u8], i: u64, s: Shown)
+fn record(table: &[u8], i: u64, s: Shown, all: bool)
     requires { ⌜ i + 1 < 2 ^ 64 ⌝ }
 {
     let node = s.node;
@@ -102,11 +102,11 @@ fn record(table: &[u8], i: u64, s: Shown)
     words::say(b", length ");
     words::number(s.length as u64);
     words::say(b", ");
-    fields(table, s.place, node);
+    fields(table, s.place, node, all);
 }
 
 // The records of an accepted table, of which there are so many.
-fn records(table: &[u8], count: usize) {
+fn records(table: &[u8], count: usize, all: bool) {
     let mut place = read::first_place(table);
     let mut i = 0;
     while i < count {
@@ -114,7 +114,7 @@ fn records(table: &[u8], count: usize) {
             return;
         }
         let s = read::record_at(table, EVERY, place);
-        record(table, i as u64, s);
+        record(table, i as u64, s, all);
         if table.len() - place < s.length {
             return;
         }
@@ -138,12 +138,13 @@ fn refusal(r: Refusal) {
     }
 }
 
-// The header and each record of a table; or the refusal.
-pub fn show(table: &[u8]) {
+// The header and each record of a table; or the refusal. Of the initiators and targets of a matrix, where there are more than 64, the first
+// and the last eight, or all where they are asked for.
+pub fn show(table: &[u8], all: bool) {
     match read::accept(table, EVERY) {
         Accepted::Records(count) => {
             head(table, count);
-            records(table, count);
+            records(table, count, all);
         }
         Accepted::Refused(r) => {
             words::say(b"refused ");

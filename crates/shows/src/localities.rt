@@ -111,22 +111,84 @@ fn entry_width(table: &[u8], place: usize, initiators: u32, targets: u32) -> usi
     w
 }
 
-// How wide the columns are.
-struct Widths {
+// A matrix of a table: where it stands, how many it is about, and how wide its columns are.
+struct Grid {
+    place: usize,
+    initiators: u32,
+    targets: u32,
     label: usize,
     entry: usize,
 }
 
-// The targets, above their columns.
-fn target_line(table: &[u8], place: usize, initiators: u32, targets: u32, w: Widths) {
-    let mut line = io::buffer();
-    let mut at = words::lay_right(&mut line, 0, w.label, b"initiator");
-    let mut t = 0;
-    while t < targets {
-        let v = SystemLocality::target_value(table, place, initiators as usize, t as usize);
-        at = words::lay_number(&mut line, at, w.entry, v as u64);
+// Of a row or a column what is shown: all before `first` and all from `last` on.
+struct Ends {
+    first: u32,
+    last: u32,
+}
+
+// So many are shown whole where all are asked for or they are few; else eight at either end.
+fn shown_of(count: u32, all: bool) -> Ends {
+    let whole = Ends {
+        first: count,
+        last: count,
+    };
+    if all {
+        return whole;
+    }
+    if count <= 64 {
+        return whole;
+    }
+    Ends {
+        first: 8,
+        last: count - 8,
+    }
+}
+
+// Says how many are left out, if some are.
+fn left_out(e: Ends, word: &[u8]) {
+    if e.last <= e.first {
+        return;
+    }
+    words::say(b"  .. ");
+    words::number((e.last - e.first) as u64);
+    words::say(word);
+}
+
+// Lays the column of those that are left out, if some are.
+fn lay_gap(line: &mut [u8; 4096], at: usize, width: usize, e: Ends) -> usize {
+    if e.last <= e.first {
+        return at;
+    }
+    words::lay_right(line, at, width, b"..")
+}
+
+// Lays some of the targets.
+fn lay_targets(
+    line: &mut [u8; 4096],
+    start: usize,
+    table: &[u8],
+    g: Grid,
+    from: u32,
+    to: u32,
+) -> usize {
+    let initiators = g.initiators as usize;
+    let mut at = start;
+    let mut t = from;
+    while t < to {
+        let v = SystemLocality::target_value(table, g.place, initiators, t as usize);
+        at = words::lay_number(line, at, g.entry, v as u64);
         t += 1;
     }
+    at
+}
+
+// The targets, above their columns.
+fn target_line(table: &[u8], g: Grid, columns: Ends) {
+    let mut line = io::buffer();
+    let at = words::lay_right(&mut line, 0, g.label, b"initiator");
+    let at = lay_targets(&mut line, at, table, g, 0, columns.first);
+    let at = lay_gap(&mut line, at, g.entry, columns);
+    let at = lay_targets(&mut line, at, table, g, columns.last, g.targets);
     words::write_line(&mut line, at);
 }
 
@@ -138,36 +200,66 @@ fn lay_entry(line: &mut [u8; 4096], at: usize, width: usize, v: u16) -> usize {
     words::lay_number(line, at, width, v as u64)
 }
 
-// Initiator i, and its entry for each target.
-fn entry_line(table: &[u8], place: usize, initiators: u32, targets: u32, i: u32, w: Widths) {
-    let mut line = io::buffer();
-    let initiator = SystemLocality::initiator_value(table, place, i as usize);
-    let mut at = words::lay_number(&mut line, 0, w.label, initiator as u64);
-    let mut t = 0;
-    while t < targets {
-        let v = SystemLocality::entry_value(table, place, initiators, targets, i, t);
-        at = lay_entry(&mut line, at, w.entry, v);
+// Lays initiator i's entries for some of the targets.
+fn lay_entries(
+    line: &mut [u8; 4096],
+    start: usize,
+    table: &[u8],
+    g: Grid,
+    i: u32,
+    from: u32,
+    to: u32,
+) -> usize {
+    let mut at = start;
+    let mut t = from;
+    while t < to {
+        let v = SystemLocality::entry_value(table, g.place, g.initiators, g.targets, i, t);
+        at = lay_entry(line, at, g.entry, v);
         t += 1;
     }
+    at
+}
+
+// Initiator i, and its entries.
+fn entry_line(table: &[u8], g: Grid, columns: Ends, i: u32) {
+    let mut line = io::buffer();
+    let initiator = SystemLocality::initiator_value(table, g.place, i as usize);
+    let at = words::lay_number(&mut line, 0, g.label, initiator as u64);
+    let at = lay_entries(&mut line, at, table, g, i, 0, columns.first);
+    let at = lay_gap(&mut line, at, g.entry, columns);
+    let at = lay_entries(&mut line, at, table, g, i, columns.last, g.targets);
     words::write_line(&mut line, at);
 }
 
-// A line for the targets and one for each initiator.
-fn entries(table: &[u8], place: usize, initiators: u32, targets: u32) {
-    let w = Widths {
-        label: label_width(table, place, initiators),
-        entry: entry_width(table, place, initiators, targets),
-    };
-    target_line(table, place, initiators, targets, w);
-    let mut i = 0;
-    while i < initiators {
-        entry_line(table, place, initiators, targets, i, w);
+// A line for each of some initiators.
+fn entry_lines(table: &[u8], g: Grid, columns: Ends, from: u32, to: u32) {
+    let mut i = from;
+    while i < to {
+        entry_line(table, g, columns, i);
         i += 1;
     }
 }
 
+// A line for the targets and one for each initiator; of many, those at either end.
+fn entries(table: &[u8], place: usize, m: SystemLocality, all: bool) {
+    let g = Grid {
+        place,
+        initiators: m.initiators,
+        targets: m.targets,
+        label: label_width(table, place, m.initiators),
+        entry: entry_width(table, place, m.initiators, m.targets),
+    };
+    let rows = shown_of(m.initiators, all);
+    let columns = shown_of(m.targets, all);
+    left_out(columns, b" targets left out\n");
+    target_line(table, g, columns);
+    entry_lines(table, g, columns, 0, rows.first);
+    left_out(rows, b" initiators left out\n");
+    entry_lines(table, g, columns, rows.last, g.initiators);
+}
+
 // A matrix. What its base unit measures depends on the revision that a guest goes by, so that no unit is named.
-pub fn matrix(table: &[u8], place: usize, m: SystemLocality) {
+pub fn matrix(table: &[u8], place: usize, m: SystemLocality, all: bool) {
     words::say(b"matrix\n");
     matrix_flags(m);
     data_type(m.data_type);
@@ -178,7 +270,7 @@ pub fn matrix(table: &[u8], place: usize, m: SystemLocality) {
     words::say(b"  entries times ");
     words::number(m.entry_base_unit);
     words::say(b", a line for each initiator, a column for each target, - where unset\n");
-    entries(table, place, m.initiators, m.targets);
+    entries(table, place, m, all);
 }
 
 // ---- side caches

@@ -202,10 +202,11 @@ fn build_srat(r: &mut Records, id: [u8; 6], table: [u8; 8], revision: u32, sink:
     out.to_aml_bytes(sink);
 }
 
-fn matrix(r: &mut Records) -> SystemLocality {
+/// A matrix of this kind, whose counts and the indices of whose settings have so many bytes. The kinds of its settings follow its own.
+fn matrix(r: &mut Records, own: u8, width: usize) -> SystemLocality {
     let (flags, data, size) = (r.number(1), r.number(1), r.number(1));
     let unit = r.number(8);
-    let (i, t) = (r.number(1) as usize, r.number(1) as usize);
+    let (i, t) = (r.number(width) as usize, r.number(width) as usize);
     let locality = match flags & 3 {
         0 => hmat::LocalityType::Memory,
         1 => hmat::LocalityType::FirstLevelCache,
@@ -229,14 +230,14 @@ fn matrix(r: &mut Records) -> SystemLocality {
     if flags & 0x20 != 0 {
         node.non_sequential_transfers();
     }
-    while let Some(kind @ 50..=52) = r.kind() {
+    while let Some(kind) = r.kind().filter(|kind| (own + 1..=own + 3).contains(kind)) {
         r.at += 1;
-        let index = r.number(1) as usize;
-        match kind {
-            50 => node.set_initiator_value(index, r.number(4) as u32),
-            51 => node.set_target_value(index, r.number(4) as u32),
+        let index = r.number(width) as usize;
+        match kind - own {
+            1 => node.set_initiator_value(index, r.number(4) as u32),
+            2 => node.set_target_value(index, r.number(4) as u32),
             _ => {
-                let target = r.number(1) as usize;
+                let target = r.number(width) as usize;
                 node.set_entry_value(index, target, r.number(2) as u16)
             }
         }
@@ -282,7 +283,8 @@ fn build_hmat(r: &mut Records, id: [u8; 6], table: [u8; 8], revision: u32, sink:
                 let (initiator, memory) = (r.number(4) as u32, r.number(4) as u32);
                 out.add_memory_proximity(MemoryProximityDomain::new(initiator, memory));
             }
-            49 => out.add_system_locality(matrix(r)),
+            49 => out.add_system_locality(matrix(r, 49, 1)),
+            55 => out.add_system_locality(matrix(r, 55, 2)),
             _ => out.add_memory_side_cache(side_cache(r)),
         }
     }

@@ -2,6 +2,7 @@
 use mathlib.Core.Path.{refl, ap}
 use native.Mathlib.Omega.{arith}
 use borrow.Author.Needs.{needs}
+use Rattle.format.specs.Form.{byte, pair}
 use Rattle.format.specs.Kind.{Processor, Resource, Cache, Memory, Acpi, Pci, Rintc, Domain, Matrix, Initiator, Target, Cell, Side, Handle, Bridge, Window, WindowTarget, Xor, Map}
 use Rattle.recipe.specs.Kinds.{meantKind}
 use Rattle.build.specs.Write.{changeOf}
@@ -77,21 +78,21 @@ with-requires-2 : tie.Need-with-requires-2
 unfolding changeOf
 with-requires-2 c κs =
     let b = c .before .before .before in
-    let l = len-is (meantKind (b .args .kind)) Initiator (b .args .change) 4 (ap meantKind (c .enum-told10 .given .1)) (b .pre .0) (λ s vs. refl) in
+    let l = len-is (meantKind (b .args .kind)) (Initiator byte) (b .args .change) 4 (ap meantKind (c .enum-told10 .given .1)) (b .pre .0) (λ s vs. refl) in
     omega (arith, l, b .pre .1)
 
 with-requires-3 : tie.Need-with-requires-3
 unfolding changeOf
 with-requires-3 c κs =
     let b = c .before .before .before in
-    let l = len-is (meantKind (b .args .kind)) Target (b .args .change) 4 (ap meantKind (c .enum-told11 .given .1)) (b .pre .0) (λ s vs. refl) in
+    let l = len-is (meantKind (b .args .kind)) (Target byte) (b .args .change) 4 (ap meantKind (c .enum-told11 .given .1)) (b .pre .0) (λ s vs. refl) in
     omega (arith, l, b .pre .1)
 
 with-requires-4 : tie.Need-with-requires-4
 unfolding changeOf
 with-requires-4 c κs =
     let b = c .before .before .before in
-    let l = len-is (meantKind (b .args .kind)) Cell (b .args .change) 2 (ap meantKind (c .enum-told12 .given .1)) (b .pre .0) (λ s vs. refl) in
+    let l = len-is (meantKind (b .args .kind)) (Cell byte) (b .args .change) 2 (ap meantKind (c .enum-told12 .given .1)) (b .pre .0) (λ s vs. refl) in
     omega (arith, l, b .pre .1)
 
 with-more-requires-10 : tie.Need-with-more-requires-10
@@ -218,31 +219,31 @@ returns-9 : tie.Need-returns-9
 unfolding changeOf
 returns-9 c =
     let b = c .before .before .before .before in
-    let l = len-is (meantKind (b .args .kind)) Matrix (b .args .change) 0 (ap meantKind (c .before .enum-told9 .given .1)) (b .pre .0) (λ s vs. refl) in
+    let l = len-is (meantKind (b .args .kind)) (Matrix byte) (b .args .change) 0 (ap meantKind (c .before .enum-told9 .given .1)) (b .pre .0) (λ s vs. refl) in
     made-after (b .args .sum .value) (b .args .out .now) (b .args .change .from) (b .args .change .len) (b .args .end) (b .args .change .more) (b .args .change .more) (c .with-more9 .result .value) l refl (c .with-more9 .ensures)
 
 returns-10 : tie.Need-returns-10
 unfolding changeOf
 returns-10 c =
     let b = c .before .before .before .before in
-    let l = len-is (meantKind (b .args .kind)) Initiator (b .args .change) 4 (ap meantKind (c .before .enum-told10 .given .1)) (b .pre .0) (λ s vs. refl) in
-    let n = more-is (meantKind (b .args .kind)) Initiator (b .args .change) 0 (ap meantKind (c .before .enum-told10 .given .1)) (b .pre .0) (λ s vs. refl) in
+    let l = len-is (meantKind (b .args .kind)) (Initiator byte) (b .args .change) 4 (ap meantKind (c .before .enum-told10 .given .1)) (b .pre .0) (λ s vs. refl) in
+    let n = more-is (meantKind (b .args .kind)) (Initiator byte) (b .args .change) 0 (ap meantKind (c .before .enum-told10 .given .1)) (b .pre .0) (λ s vs. refl) in
     set-after (b .args .sum .value) (b .args .out .now) (b .args .change .from) (b .args .change .len) (b .args .end) (b .args .change .more) 4 (c .with2 .result .value) l n (c .with2 .ensures)
 
 returns-11 : tie.Need-returns-11
 unfolding changeOf
 returns-11 c =
     let b = c .before .before .before .before in
-    let l = len-is (meantKind (b .args .kind)) Target (b .args .change) 4 (ap meantKind (c .before .enum-told11 .given .1)) (b .pre .0) (λ s vs. refl) in
-    let n = more-is (meantKind (b .args .kind)) Target (b .args .change) 0 (ap meantKind (c .before .enum-told11 .given .1)) (b .pre .0) (λ s vs. refl) in
+    let l = len-is (meantKind (b .args .kind)) (Target byte) (b .args .change) 4 (ap meantKind (c .before .enum-told11 .given .1)) (b .pre .0) (λ s vs. refl) in
+    let n = more-is (meantKind (b .args .kind)) (Target byte) (b .args .change) 0 (ap meantKind (c .before .enum-told11 .given .1)) (b .pre .0) (λ s vs. refl) in
     set-after (b .args .sum .value) (b .args .out .now) (b .args .change .from) (b .args .change .len) (b .args .end) (b .args .change .more) 4 (c .with3 .result .value) l n (c .with3 .ensures)
 
 returns-12 : tie.Need-returns-12
 unfolding changeOf
 returns-12 c =
     let b = c .before .before .before .before in
-    let l = len-is (meantKind (b .args .kind)) Cell (b .args .change) 2 (ap meantKind (c .before .enum-told12 .given .1)) (b .pre .0) (λ s vs. refl) in
-    let n = more-is (meantKind (b .args .kind)) Cell (b .args .change) 0 (ap meantKind (c .before .enum-told12 .given .1)) (b .pre .0) (λ s vs. refl) in
+    let l = len-is (meantKind (b .args .kind)) (Cell byte) (b .args .change) 2 (ap meantKind (c .before .enum-told12 .given .1)) (b .pre .0) (λ s vs. refl) in
+    let n = more-is (meantKind (b .args .kind)) (Cell byte) (b .args .change) 0 (ap meantKind (c .before .enum-told12 .given .1)) (b .pre .0) (λ s vs. refl) in
     set-after (b .args .sum .value) (b .args .out .now) (b .args .change .from) (b .args .change .len) (b .args .end) (b .args .change .more) 2 (c .with4 .result .value) l n (c .with4 .ensures)
 
 returns-13 : tie.Need-returns-13
@@ -300,6 +301,58 @@ returns-19 c =
     let n = more-is (meantKind (b .args .kind)) Map (b .args .change) 8 (ap meantKind (c .before .before .enum-told19 .given .1)) (b .pre .0) (λ s vs. refl) in
     grown-after (b .args .sum .value) (b .args .out .now) (b .args .change .from) (b .args .change .len) (b .args .end) (b .args .change .more) 8 8 (c .before .with7 .result .value) (c .with-more15 .result .value) l n (c .before .with7 .ensures) (c .with-more15 .ensures)
 
+with-requires-8 : tie.Need-with-requires-8
+unfolding changeOf
+with-requires-8 c κs =
+    let b = c .before .before .before in
+    let l = len-is (meantKind (b .args .kind)) (Initiator pair) (b .args .change) 4 (ap meantKind (c .enum-told21 .given .1)) (b .pre .0) (λ s vs. refl) in
+    omega (arith, l, b .pre .1)
+
+with-requires-9 : tie.Need-with-requires-9
+unfolding changeOf
+with-requires-9 c κs =
+    let b = c .before .before .before in
+    let l = len-is (meantKind (b .args .kind)) (Target pair) (b .args .change) 4 (ap meantKind (c .enum-told22 .given .1)) (b .pre .0) (λ s vs. refl) in
+    omega (arith, l, b .pre .1)
+
+with-requires-10 : tie.Need-with-requires-10
+unfolding changeOf
+with-requires-10 c κs =
+    let b = c .before .before .before in
+    let l = len-is (meantKind (b .args .kind)) (Cell pair) (b .args .change) 2 (ap meantKind (c .enum-told23 .given .1)) (b .pre .0) (λ s vs. refl) in
+    omega (arith, l, b .pre .1)
+
+returns-20 : tie.Need-returns-20
+unfolding changeOf
+returns-20 c =
+    let b = c .before .before .before .before in
+    let l = len-is (meantKind (b .args .kind)) (Matrix pair) (b .args .change) 0 (ap meantKind (c .before .enum-told20 .given .1)) (b .pre .0) (λ s vs. refl) in
+    made-after (b .args .sum .value) (b .args .out .now) (b .args .change .from) (b .args .change .len) (b .args .end) (b .args .change .more) (b .args .change .more) (c .with-more16 .result .value) l refl (c .with-more16 .ensures)
+
+returns-21 : tie.Need-returns-21
+unfolding changeOf
+returns-21 c =
+    let b = c .before .before .before .before in
+    let l = len-is (meantKind (b .args .kind)) (Initiator pair) (b .args .change) 4 (ap meantKind (c .before .enum-told21 .given .1)) (b .pre .0) (λ s vs. refl) in
+    let n = more-is (meantKind (b .args .kind)) (Initiator pair) (b .args .change) 0 (ap meantKind (c .before .enum-told21 .given .1)) (b .pre .0) (λ s vs. refl) in
+    set-after (b .args .sum .value) (b .args .out .now) (b .args .change .from) (b .args .change .len) (b .args .end) (b .args .change .more) 4 (c .with8 .result .value) l n (c .with8 .ensures)
+
+returns-22 : tie.Need-returns-22
+unfolding changeOf
+returns-22 c =
+    let b = c .before .before .before .before in
+    let l = len-is (meantKind (b .args .kind)) (Target pair) (b .args .change) 4 (ap meantKind (c .before .enum-told22 .given .1)) (b .pre .0) (λ s vs. refl) in
+    let n = more-is (meantKind (b .args .kind)) (Target pair) (b .args .change) 0 (ap meantKind (c .before .enum-told22 .given .1)) (b .pre .0) (λ s vs. refl) in
+    set-after (b .args .sum .value) (b .args .out .now) (b .args .change .from) (b .args .change .len) (b .args .end) (b .args .change .more) 4 (c .with9 .result .value) l n (c .with9 .ensures)
+
+returns-23 : tie.Need-returns-23
+unfolding changeOf
+returns-23 c =
+    let b = c .before .before .before .before in
+    let l = len-is (meantKind (b .args .kind)) (Cell pair) (b .args .change) 2 (ap meantKind (c .before .enum-told23 .given .1)) (b .pre .0) (λ s vs. refl) in
+    let n = more-is (meantKind (b .args .kind)) (Cell pair) (b .args .change) 0 (ap meantKind (c .before .enum-told23 .given .1)) (b .pre .0) (λ s vs. refl) in
+    set-after (b .args .sum .value) (b .args .out .now) (b .args .change .from) (b .args .change .len) (b .args .end) (b .args .change .more) 2 (c .with10 .result .value) l n (c .with10 .ensures)
+
 pub after-spec : {M : Type 1} → statement M
 after-spec =
     tie.close
@@ -345,6 +398,14 @@ after-spec =
     (λ c. search needs)
     with-requires-7
     with-more-requires-15
+    (λ c. search needs)
+    (λ c κs. search needs)
+    (λ c. search needs)
+    with-requires-8
+    (λ c. search needs)
+    with-requires-9
+    (λ c. search needs)
+    with-requires-10
     returns
     returns-2
     returns-3
@@ -363,4 +424,8 @@ after-spec =
     returns-16
     returns-17
     returns-18
-    returns-19)
+    returns-19
+    returns-20
+    returns-21
+    returns-22
+    returns-23)

@@ -4,6 +4,7 @@ use Prim.Native.Nat.{ℕ, _+_, _%_}
 use native.Mathlib.Omega.{arith}
 use borrow.Author.Needs.{needs}
 use Rattle.format.specs.Bytes.{part, sum}
+use Rattle.format.specs.Form.{byte, pair}
 use Rattle.format.specs.Kind.{Processor, Resource, Cache, Memory, Acpi, Pci, Rintc, Domain, Matrix, Initiator, Target, Cell, Side, Handle, Bridge, Window, WindowTarget, Xor, Map}
 use Rattle.format.specs.Build.{checkOf}
 use Rattle.recipe.specs.Kinds.{meantKind}
@@ -24,21 +25,21 @@ without-requires-2 : tie.Need-without-requires-2
 unfolding changeOf
 without-requires-2 c κs =
     let b = c .before .before .before in
-    let n = len-is (meantKind (b .args .kind)) Initiator (b .args .change) 4 (ap meantKind (c .enum-told10 .given .1)) (b .pre .0) (λ s vs. refl) in
+    let n = len-is (meantKind (b .args .kind)) (Initiator byte) (b .args .change) 4 (ap meantKind (c .enum-told10 .given .1)) (b .pre .0) (λ s vs. refl) in
     omega (arith, n, b .pre .1)
 
 without-requires-3 : tie.Need-without-requires-3
 unfolding changeOf
 without-requires-3 c κs =
     let b = c .before .before .before in
-    let n = len-is (meantKind (b .args .kind)) Target (b .args .change) 4 (ap meantKind (c .enum-told11 .given .1)) (b .pre .0) (λ s vs. refl) in
+    let n = len-is (meantKind (b .args .kind)) (Target byte) (b .args .change) 4 (ap meantKind (c .enum-told11 .given .1)) (b .pre .0) (λ s vs. refl) in
     omega (arith, n, b .pre .1)
 
 without-requires-4 : tie.Need-without-requires-4
 unfolding changeOf
 without-requires-4 c κs =
     let b = c .before .before .before in
-    let n = len-is (meantKind (b .args .kind)) Cell (b .args .change) 2 (ap meantKind (c .enum-told12 .given .1)) (b .pre .0) (λ s vs. refl) in
+    let n = len-is (meantKind (b .args .kind)) (Cell byte) (b .args .change) 2 (ap meantKind (c .enum-told12 .given .1)) (b .pre .0) (λ s vs. refl) in
     omega (arith, n, b .pre .1)
 
 without-requires-5 : tie.Need-without-requires-5
@@ -122,28 +123,28 @@ returns-9 : tie.Need-returns-9
 unfolding changeOf
 returns-9 c =
     let b = c .before .before .before in
-    let n = len-is (meantKind (b .args .kind)) Matrix (b .args .change) 0 (ap meantKind (c .enum-told9 .given .1)) (b .pre .0) (λ s vs. refl) in
+    let n = len-is (meantKind (b .args .kind)) (Matrix byte) (b .args .change) 0 (ap meantKind (c .enum-told9 .given .1)) (b .pre .0) (λ s vs. refl) in
     sum-same (b .args .sum .value) (b .args .out .now) (b .args .change .from) (b .args .change .len) n (search needs)
 
 returns-10 : tie.Need-returns-10
 unfolding changeOf
 returns-10 c =
     let b = c .before .before .before .before in
-    let n = len-is (meantKind (b .args .kind)) Initiator (b .args .change) 4 (ap meantKind (c .before .enum-told10 .given .1)) (b .pre .0) (λ s vs. refl) in
+    let n = len-is (meantKind (b .args .kind)) (Initiator byte) (b .args .change) 4 (ap meantKind (c .before .enum-told10 .given .1)) (b .pre .0) (λ s vs. refl) in
     c .without2 .ensures ∙ ap (λ (n : ℕ). (b .args .sum .value + checkOf (sum (part (b .args .out .now) (b .args .change .from) n))) % 256) (sym n)
 
 returns-11 : tie.Need-returns-11
 unfolding changeOf
 returns-11 c =
     let b = c .before .before .before .before in
-    let n = len-is (meantKind (b .args .kind)) Target (b .args .change) 4 (ap meantKind (c .before .enum-told11 .given .1)) (b .pre .0) (λ s vs. refl) in
+    let n = len-is (meantKind (b .args .kind)) (Target byte) (b .args .change) 4 (ap meantKind (c .before .enum-told11 .given .1)) (b .pre .0) (λ s vs. refl) in
     c .without3 .ensures ∙ ap (λ (n : ℕ). (b .args .sum .value + checkOf (sum (part (b .args .out .now) (b .args .change .from) n))) % 256) (sym n)
 
 returns-12 : tie.Need-returns-12
 unfolding changeOf
 returns-12 c =
     let b = c .before .before .before .before in
-    let n = len-is (meantKind (b .args .kind)) Cell (b .args .change) 2 (ap meantKind (c .before .enum-told12 .given .1)) (b .pre .0) (λ s vs. refl) in
+    let n = len-is (meantKind (b .args .kind)) (Cell byte) (b .args .change) 2 (ap meantKind (c .before .enum-told12 .given .1)) (b .pre .0) (λ s vs. refl) in
     c .without4 .ensures ∙ ap (λ (n : ℕ). (b .args .sum .value + checkOf (sum (part (b .args .out .now) (b .args .change .from) n))) % 256) (sym n)
 
 returns-13 : tie.Need-returns-13
@@ -195,6 +196,55 @@ returns-19 c =
     let n = len-is (meantKind (b .args .kind)) Map (b .args .change) 8 (ap meantKind (c .before .enum-told19 .given .1)) (b .pre .0) (λ s vs. refl) in
     c .without7 .ensures ∙ ap (λ (n : ℕ). (b .args .sum .value + checkOf (sum (part (b .args .out .now) (b .args .change .from) n))) % 256) (sym n)
 
+without-requires-8 : tie.Need-without-requires-8
+unfolding changeOf
+without-requires-8 c κs =
+    let b = c .before .before .before in
+    let n = len-is (meantKind (b .args .kind)) (Initiator pair) (b .args .change) 4 (ap meantKind (c .enum-told21 .given .1)) (b .pre .0) (λ s vs. refl) in
+    omega (arith, n, b .pre .1)
+
+without-requires-9 : tie.Need-without-requires-9
+unfolding changeOf
+without-requires-9 c κs =
+    let b = c .before .before .before in
+    let n = len-is (meantKind (b .args .kind)) (Target pair) (b .args .change) 4 (ap meantKind (c .enum-told22 .given .1)) (b .pre .0) (λ s vs. refl) in
+    omega (arith, n, b .pre .1)
+
+without-requires-10 : tie.Need-without-requires-10
+unfolding changeOf
+without-requires-10 c κs =
+    let b = c .before .before .before in
+    let n = len-is (meantKind (b .args .kind)) (Cell pair) (b .args .change) 2 (ap meantKind (c .enum-told23 .given .1)) (b .pre .0) (λ s vs. refl) in
+    omega (arith, n, b .pre .1)
+
+returns-20 : tie.Need-returns-20
+unfolding changeOf
+returns-20 c =
+    let b = c .before .before .before in
+    let n = len-is (meantKind (b .args .kind)) (Matrix pair) (b .args .change) 0 (ap meantKind (c .enum-told20 .given .1)) (b .pre .0) (λ s vs. refl) in
+    sum-same (b .args .sum .value) (b .args .out .now) (b .args .change .from) (b .args .change .len) n (search needs)
+
+returns-21 : tie.Need-returns-21
+unfolding changeOf
+returns-21 c =
+    let b = c .before .before .before .before in
+    let n = len-is (meantKind (b .args .kind)) (Initiator pair) (b .args .change) 4 (ap meantKind (c .before .enum-told21 .given .1)) (b .pre .0) (λ s vs. refl) in
+    c .without8 .ensures ∙ ap (λ (n : ℕ). (b .args .sum .value + checkOf (sum (part (b .args .out .now) (b .args .change .from) n))) % 256) (sym n)
+
+returns-22 : tie.Need-returns-22
+unfolding changeOf
+returns-22 c =
+    let b = c .before .before .before .before in
+    let n = len-is (meantKind (b .args .kind)) (Target pair) (b .args .change) 4 (ap meantKind (c .before .enum-told22 .given .1)) (b .pre .0) (λ s vs. refl) in
+    c .without9 .ensures ∙ ap (λ (n : ℕ). (b .args .sum .value + checkOf (sum (part (b .args .out .now) (b .args .change .from) n))) % 256) (sym n)
+
+returns-23 : tie.Need-returns-23
+unfolding changeOf
+returns-23 c =
+    let b = c .before .before .before .before in
+    let n = len-is (meantKind (b .args .kind)) (Cell pair) (b .args .change) 2 (ap meantKind (c .before .enum-told23 .given .1)) (b .pre .0) (λ s vs. refl) in
+    c .without10 .ensures ∙ ap (λ (n : ℕ). (b .args .sum .value + checkOf (sum (part (b .args .out .now) (b .args .change .from) n))) % 256) (sym n)
+
 pub before-spec : {M : Type 1} → statement M
 before-spec =
     tie.close
@@ -225,6 +275,13 @@ before-spec =
     (λ c. search needs)
     (λ c. search needs)
     without-requires-7
+    (λ c. search needs)
+    (λ c. search needs)
+    without-requires-8
+    (λ c. search needs)
+    without-requires-9
+    (λ c. search needs)
+    without-requires-10
     returns
     returns-2
     returns-3
@@ -243,4 +300,8 @@ before-spec =
     returns-16
     returns-17
     returns-18
-    returns-19)
+    returns-19
+    returns-20
+    returns-21
+    returns-22
+    returns-23)

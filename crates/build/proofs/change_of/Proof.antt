@@ -81,10 +81,34 @@ returns-19 : tie.Need-returns-19
 unfolding changeOf
 returns-19 c = rw (c .before .enum-told19 .given .1) (c .growing3 .ensures)
 
+returns-20 : tie.Need-returns-20
+unfolding changeOf
+returns-20 c = rw (c .before .enum-told20 .given .1) (c .making-matrix2 .ensures)
+
+returns-21 : tie.Need-returns-21
+unfolding changeOf
+returns-21 c = rw (c .before .enum-told21 .given .1) (c .setting-initiator2 .ensures)
+
+returns-22 : tie.Need-returns-22
+unfolding changeOf
+returns-22 c = rw (c .before .enum-told22 .given .1) (c .setting-target2 .ensures)
+
+returns-23 : tie.Need-returns-23
+unfolding changeOf
+returns-23 c = rw (c .before .enum-told23 .given .1) (c .setting-cell2 .ensures)
+
 pub change-of-spec : {M : Type 1} → statement M
 change-of-spec =
     tie.close
     (tie.spec
+    (λ c. search needs)
+    (λ c κs. search needs)
+    (λ c. search needs)
+    (λ c κs. search needs)
+    (λ c. search needs)
+    (λ c κs. search needs)
+    (λ c. search needs)
+    (λ c κs. search needs)
     (λ c. search needs)
     (λ c κs. search needs)
     (λ c. search needs)
@@ -141,4 +165,8 @@ change-of-spec =
     returns-16
     returns-17
     returns-18
-    returns-19)
+    returns-19
+    returns-20
+    returns-21
+    returns-22
+    returns-23)

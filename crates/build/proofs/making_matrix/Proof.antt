@@ -1,7 +1,8 @@
--- `making_matrix` meets its contract: I and T are bytes of the body, so the length is exact.
+-- `making_matrix` meets its contract: I and T are one or two bytes of the body each, so the length is exact.
 use borrow.Author.Needs.{needs}
 use mathlib.Core.Path.{_∙_}
 use native.Mathlib.Omega.{arith}
+use Rattle.hmat.specs.Widths.{meantWidth}
 use Rattle.build.proofs.Places.{matrix-making}
 use Rattle.build.proofs.making_matrix.Statement.{statement}
 use Rattle.build.proofs.making_matrix.Tie as tie
@@ -11,7 +12,7 @@ returns c =
     let x = c .before .before in
     let k = x .before in
     let a = k .before .args in
-    c .making .ensures ∙ matrix-making (a .s) (a .bytes .now) _ _ (λ i. omega (arith, k .shared-slice-known .given i)) (x .from-body .ensures) (c .before .len .ensures)
+    c .making .ensures ∙ matrix-making (meantWidth (a .width)) (a .s) (a .bytes .now) _ _ (λ i. omega (arith, k .shared-slice-known .given i)) (x .from-body .ensures) (c .before .len .ensures)
 
 pub making-matrix-spec : {M : Type 1} → statement M
 making-matrix-spec =

@@ -5,10 +5,10 @@ use mathlib.Core.List.{List}
 use native.Mathlib.Omega.{arith}
 use borrow.Author.Needs.{needs}
 use Rattle.format.specs.Bytes.{at, le, over}
-use Rattle.format.specs.Form.{processor, cache, memory, acpi, pci, rintc, domain, side, bridge, window, xor, registers, ways, layout}
+use Rattle.format.specs.Form.{byte, pair, processor, cache, memory, acpi, pci, rintc, domain, side, bridge, window, xor, registers, ways, layout}
 use Rattle.format.specs.Node.{node}
 use Rattle.format.specs.Layout.{width, fields}
-use Rattle.format.specs.Kind.{Processor, Cache, Memory, Acpi, Pci, Rintc, Domain, Initiator, Side, Handle, Bridge, Window, WindowTarget, Xor, Map, body}
+use Rattle.format.specs.Kind.{Processor, Cache, Memory, Acpi, Pci, Rintc, Domain, Initiator, Cell, Side, Handle, Bridge, Window, WindowTarget, Xor, Map, body}
 use Rattle.recipe.specs.Kinds.{meantKind}
 use Rattle.pptt.specs.Processor as pptt
 use Rattle.hmat.specs.Hmat as hmat
@@ -130,7 +130,7 @@ set-value-requires c κs =
     let k = c .before .enum-told10 .given .1 in
     let b = c .before .before .before .before .before .before in
     let l : b .args .change .len ≡ 4 = ap (λ (x : Change). x .len) (rw k at (b .pre .3)) in
-    (rw k at (b .pre .2), omega (arith, b .pre .4))
+    omega (arith, b .pre .4)
 
 set-value-requires-2 : tie.Need-set-value-requires-2
 unfolding changeOf width body
@@ -138,7 +138,7 @@ set-value-requires-2 c κs =
     let k = c .before .enum-told11 .given .1 in
     let b = c .before .before .before .before .before .before in
     let l : b .args .change .len ≡ 4 = ap (λ (x : Change). x .len) (rw k at (b .pre .3)) in
-    (rw k at (b .pre .2), omega (arith, b .pre .4))
+    omega (arith, b .pre .4)
 
 -- ---- what is written
 
@@ -233,7 +233,7 @@ returns-10 c =
     let t = d .before .before in
     let k = t .enum-told10 .given .1 in
     let b = t .before .before .before .before .before in
-    let v = at (fields (body Initiator) (b .args .bytes .now)) 1 in
+    let v = at (fields (body (Initiator byte)) (b .args .bytes .now)) 1 in
     rw k (d .set-value .ensures ∙ ap (λ (x : Change). over (b .args .out .now) (x .from) (le 4 v)) (rw k at (b .pre .3)))
 
 returns-11 : tie.Need-returns-11
@@ -243,12 +243,18 @@ returns-11 c =
     let t = d .before .before in
     let k = t .enum-told11 .given .1 in
     let b = t .before .before .before .before .before in
-    let v = at (fields (body Initiator) (b .args .bytes .now)) 1 in
+    let v = at (fields (body (Initiator byte)) (b .args .bytes .now)) 1 in
     rw k (d .set-value2 .ensures ∙ ap (λ (x : Change). over (b .args .out .now) (x .from) (le 4 v)) (rw k at (b .pre .3)))
 
 returns-12 : tie.Need-returns-12
-unfolding wrote
-returns-12 c = rw (c .before .before .before .before .enum-told12 .given .1) (c .before .before .set-cell .ensures)
+unfolding wrote changeOf body
+returns-12 c =
+    let d = c .before .before in
+    let t = d .before .before in
+    let k = t .enum-told12 .given .1 in
+    let b = t .before .before .before .before .before in
+    let v = at (fields (body (Cell byte)) (b .args .bytes .now)) 2 in
+    rw k (d .set-cell .ensures ∙ ap (λ (x : Change). over (b .args .out .now) (x .from) (le 2 v)) (rw k at (b .pre .3)))
 
 returns-13 : tie.Need-returns-13
 unfolding wrote width body
@@ -316,6 +322,59 @@ returns-19 c =
     let a = t .before .before .before .before .before .args in
     let e = d .before .from-body13 .ensures ∙ body-window Map (a .bytes .now) 8 (omega arith) in
     rw (t .enum-told19 .given .1) (d .add-xormap .ensures ∙ ap (λ (vs : List ℕ). cedt.grown (a .out .now) (a .s .latest .place) (a .s .latest .count) (at vs 0)) e)
+
+set-value-requires-3 : tie.Need-set-value-requires-3
+unfolding changeOf width body
+set-value-requires-3 c κs =
+    let k = c .before .enum-told21 .given .1 in
+    let b = c .before .before .before .before .before .before in
+    let l : b .args .change .len ≡ 4 = ap (λ (x : Change). x .len) (rw k at (b .pre .3)) in
+    omega (arith, b .pre .4)
+
+set-value-requires-4 : tie.Need-set-value-requires-4
+unfolding changeOf width body
+set-value-requires-4 c κs =
+    let k = c .before .enum-told22 .given .1 in
+    let b = c .before .before .before .before .before .before in
+    let l : b .args .change .len ≡ 4 = ap (λ (x : Change). x .len) (rw k at (b .pre .3)) in
+    omega (arith, b .pre .4)
+
+returns-20 : tie.Need-returns-20
+unfolding wrote
+returns-20 c =
+    let d = c .before .before in
+    let e = d .before .before in
+    rw (e .before .enum-told20 .given .1) (d .put13 .ensures ∙ matrix-appended _ _ _ _ (e .from-body14 .ensures))
+
+returns-21 : tie.Need-returns-21
+unfolding wrote changeOf body
+returns-21 c =
+    let d = c .before .before in
+    let t = d .before .before in
+    let k = t .enum-told21 .given .1 in
+    let b = t .before .before .before .before .before in
+    let v = at (fields (body (Initiator pair)) (b .args .bytes .now)) 1 in
+    rw k (d .set-value3 .ensures ∙ ap (λ (x : Change). over (b .args .out .now) (x .from) (le 4 v)) (rw k at (b .pre .3)))
+
+returns-22 : tie.Need-returns-22
+unfolding wrote changeOf body
+returns-22 c =
+    let d = c .before .before in
+    let t = d .before .before in
+    let k = t .enum-told22 .given .1 in
+    let b = t .before .before .before .before .before in
+    let v = at (fields (body (Initiator pair)) (b .args .bytes .now)) 1 in
+    rw k (d .set-value4 .ensures ∙ ap (λ (x : Change). over (b .args .out .now) (x .from) (le 4 v)) (rw k at (b .pre .3)))
+
+returns-23 : tie.Need-returns-23
+unfolding wrote changeOf body
+returns-23 c =
+    let d = c .before .before in
+    let t = d .before .before in
+    let k = t .enum-told23 .given .1 in
+    let b = t .before .before .before .before .before in
+    let v = at (fields (body (Cell pair)) (b .args .bytes .now)) 2 in
+    rw k (d .set-cell2 .ensures ∙ ap (λ (x : Change). over (b .args .out .now) (x .from) (le 2 v)) (rw k at (b .pre .3)))
 
 pub put-spec : {M : Type 1} → statement M
 put-spec =
@@ -394,6 +453,15 @@ put-spec =
     (λ c κs. search needs)
     (λ c κs. search needs)
     (λ c. search needs)
+    (λ c κs. search needs)
+    (λ c κs. search needs)
+    (λ c. search needs)
+    set-value-requires-3
+    (λ c. search needs)
+    set-value-requires-4
+    (λ c. search needs)
+    (λ c κs. search needs)
+    (λ c. search needs)
     returns
     (λ c. search needs)
     returns-2
@@ -430,4 +498,12 @@ put-spec =
     (λ c. search needs)
     returns-18
     (λ c. search needs)
-    returns-19)
+    returns-19
+    (λ c. search needs)
+    returns-20
+    (λ c. search needs)
+    returns-21
+    (λ c. search needs)
+    returns-22
+    (λ c. search needs)
+    returns-23)

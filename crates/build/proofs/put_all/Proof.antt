@@ -21,14 +21,14 @@ returns c =
 
 put-records-requires-2 : tie.Need-put-records-requires-2
 put-records-requires-2 c κs =
-    let b = c .before .before .before .before .before .before .before .before in
+    let b = c .before .before .before .before .before .before .before .before .before in
     let a = b .args in
     let y = b .pre in
     record { start = y .start; meant = y .meant; holds = unmarked (y .start) (a .recipe .now) (meant (a .table)) (y .meant) (a .first) (a .out .now) [] (y .holds) 4096 }
 
-returns-2 : tie.Need-returns-2
-returns-2 c =
-    let a = c .before .before .before .before .before .before .before .before .before .before .before .before .args in
+returns-3 : tie.Need-returns-3
+returns-3 c =
+    let a = c .before .before .before .before .before .before .before .before .before .before .before .before .before .args in
     let put = c .before .before .before .put-records2 in
     (put .ensures .0, λ xs m h. put .ensures .1 xs m (unmarked xs (a .recipe .now) (meant (a .table)) m (a .first) (a .out .now) [] h 4096))
 
@@ -43,9 +43,14 @@ put-all-spec =
     returns
     (λ c. search needs)
     (λ c κs. search needs)
+    (λ c κs. search needs)
+    (λ c. search needs)
+    (λ c. c .before .before .put-long .ensures)
+    (λ c. search needs)
+    (λ c κs. search needs)
     put-records-requires-2
     (λ c. search needs)
-    returns-2
+    returns-3
     (λ c. search needs)
     (λ c κs. search needs)
     (λ c. search needs)

@@ -1,21 +1,18 @@
--- `set_cell` meets its contract: the fields of the body are those of the setting, which goes to its place.
+-- `set_cell` meets its contract: the value of the body goes to the place.
 use borrow.Author.Needs.{needs}
 use mathlib.Core.Path.{ap, _∙_}
 use mathlib.Core.List.{List}
 use Prim.Native.Nat.{ℕ}
-use Rattle.format.specs.Bytes.{at}
-use Rattle.laws.specs.Settings.{cell}
-use Rattle.build.specs.Write.{wrote, sets}
+use Rattle.format.specs.Bytes.{at, le, over}
 use Rattle.build.proofs.set_cell.Statement.{statement}
 use Rattle.build.proofs.set_cell.Tie as tie
 
 returns : tie.Need-returns
-unfolding wrote
 returns c =
     let w = c .before .before in
-    let x = w .before .before .before .before in
+    let x = w .before in
     let a = x .before .before .before .before .args in
-    w .set-entry-value .ensures ∙ ap (λ (vs : List ℕ). sets (a .s) (cell (at vs 0) (at vs 1) (at vs 2)) (a .out .now)) (x .from-body .ensures)
+    w .put-u16 .ensures ∙ ap (λ (vs : List ℕ). over (a .out .now) (a .place) (le 2 (at vs 2))) (x .from-body .ensures)
 
 pub set-cell-spec : {M : Type 1} → statement M
 set-cell-spec =
@@ -23,7 +20,5 @@ set-cell-spec =
     (tie.spec
     (λ c κs. search needs)
     (λ c. search needs)
-    (λ c. search needs)
-    (λ c κs. search needs)
     (λ c. search needs)
     returns)

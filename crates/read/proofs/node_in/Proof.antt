@@ -5,9 +5,10 @@ use Rattle.format.specs.Row.{caches, memories, initiators, oldRintcs, domains, 
 use Rattle.format.specs.Read.{shown, fieldsOf}
 use Rattle.pptt.specs.Cache.{cacheNode}
 use Rattle.srat.specs.Srat.{memoryNode, initiatorNode, rintcNode, oldRintcNode}
+use Rattle.hmat.specs.Widths.{meantWidth}
 use Rattle.hmat.proofs.Shows.{shown-domain, shown-matrix, shown-side}
 use Rattle.cedt.proofs.Shows.{shown-bridge, shown-window, shown-maths}
-use Rattle.read.proofs.Fields.{node-shown, fields-shown, handle-shown}
+use Rattle.read.proofs.Fields.{node-shown, fields-shown, handle-shown, matrix-row}
 use Rattle.read.proofs.node_in.Statement.{statement}
 use Rattle.read.proofs.node_in.Tie as tie
 
@@ -36,7 +37,11 @@ unfolding formIn
 returns-6 c = rw (c .before .enum-told6 .given .1) (refl, shown-domain (c .get5 .result) _ (c .get5 .ensures) ∙ node-shown domains _)
 
 returns-7 : tie.Need-returns-7
-returns-7 c = rw (c .before .enum-told7 .given .1) (refl, shown-matrix (c .get6 .result) _ (c .get6 .ensures) ∙ node-shown matrices _)
+returns-7 c =
+    let s = c .before .before .before .before in
+    let ((w, _), e) = c .before .enum-told7 .given in
+    let m = c .get6 .result in
+    rw e (matrix-row _ m (c .get6 .ensures (meantWidth w)) (s .pre .counts (meantWidth w) (rw e)), shown-matrix m _ (c .get6 .ensures (meantWidth w)) ∙ node-shown (matrices (meantWidth w)) _)
 
 returns-8 : tie.Need-returns-8
 returns-8 c = rw (c .before .enum-told8 .given .1) (refl, shown-side (c .get7 .result) _ (c .get7 .ensures) ∙ node-shown sides _)
@@ -63,7 +68,7 @@ node-in-spec =
     tie.close
     (tie.spec
     (λ c. search needs)
-    (λ c κs. c .before .before .before .pre (rw (c .enum-told .given .1)))
+    (λ c κs. c .before .before .before .pre .short (rw (c .enum-told .given .1)))
     (λ c. search needs)
     (λ c κs. search needs)
     (λ c. search needs)

@@ -51,7 +51,7 @@ refs-good-spec =
     (λ c. rw (c .enum-told4 .given .1) (bare-refs _ initiators _ tt))
     (λ c. rw (c .enum-told5 .given .1) (bare-refs _ oldRintcs _ tt))
     (λ c. rw (c .enum-told6 .given .1) (bare-refs _ domains _ tt))
-    (λ c. rw (c .enum-told7 .given .1) (bare-refs _ matrices _ tt))
+    (λ c. rw (c .enum-told7 .given .1) (bare-refs _ (matrices _) _ tt))
     (λ c. rw (c .enum-told8 .given .1) (bare-refs _ sides _ tt))
     (λ c. rw (c .enum-told9 .given .1) (bare-refs _ bridges _ tt))
     (λ c. rw (c .enum-told10 .given .1) (bare-refs _ windows _ tt))

@@ -13,7 +13,7 @@ judge-all-requires c κs =
 
 judge-all-requires-2 : tie.Need-judge-all-requires-2
 judge-all-requires-2 c κs =
-    let s = c .before .before .before .before .before .before in
+    let s = c .before .before .before .before .before .before .before in
     (s .pre, none-kept (Passed (meant (s .args .t)) (s .args .c .now)) 4096)
 
 judge-all-requires-3 : tie.Need-judge-all-requires-3
@@ -34,6 +34,8 @@ scan-spec =
     (λ c κs. search needs)
     (λ c. search needs)
     judge-all-requires-2
+    (λ c. search needs)
+    (λ c κs. search needs)
     (λ c. search needs)
     (λ c. search needs)
     judge-all-requires-3

@@ -1,16 +1,15 @@
 -- `show` meets its contract: type, length, row and fields of the record's bytes.
-use mathlib.Core.Path.{sym, _∙_}
 use borrow.Author.Needs.{needs}
 use Rattle.header.specs.Header.{meant}
-use Rattle.read.proofs.Fields.{processor-short}
+use Rattle.read.proofs.Fields.{known-fits}
 use Rattle.read.proofs.show.Statement.{statement}
 use Rattle.read.proofs.show.Tie as tie
 
 node-in-requires : tie.Need-node-in-requires
-node-in-requires c κs e =
+node-in-requires c κs =
     let r = c .before .before in
     let a = r .before .before .args in
-    processor-short (meant (a .t)) (a .revision) (a .mask) _ _ (rw (r .row-of .ensures) at (sym (c .known .ensures) ∙ e))
+    rw (c .known .ensures, r .row-of .ensures) (known-fits (meant (a .t)) (a .revision) (a .mask) _ _)
 
 returns : tie.Need-returns
 returns c count =

@@ -1,15 +1,17 @@
 -- `calls_len` meets its contract, row by row: a call is as long as its kind, whatever its references are.
 use mathlib.Core.Path.{_≡_, refl}
-use Prim.Native.Nat.{ℕ, _-_, _/_, _≤_}
+use Prim.Native.Nat.{ℕ, _-_, _*_, _/_, _≤_}
 use mathlib.Core.Option.{some}
 use native.Mathlib.Omega.{arith}
 use borrow.Author.Needs.{needs}
 use Rattle.format.specs.Layout.{width}
+use Rattle.format.specs.Table.{limit}
 use Rattle.format.specs.Form.{cache, memory, rintc, domain}
 use Rattle.format.specs.Row.{initiators, matrices, bridges, formIn}
 use Rattle.format.specs.Kind.{Cache, Memory, Rintc, Domain, Bridge, body}
 use Rattle.format.specs.Normal.{calls}
 use Rattle.laws.proofs.Fields.{length-call}
+use Rattle.hmat.specs.Widths.{meantWidth}
 use Rattle.rows.specs.Rows.{rowMeant}
 use Rattle.read.proofs.Refs.{plain-row}
 use Rattle.readout.specs.Places.{callsIn}
@@ -18,7 +20,7 @@ use Rattle.readout.proofs.calls_len.Statement.{statement}
 use Rattle.readout.proofs.calls_len.Tie as tie
 
 -- the resources of a processor are few
-few : (r n : ℕ) → n ≤ 1048576 → r ≡ (n - 20) / 4 → r ≤ 262144
+few : (r n : ℕ) → n ≤ limit → r ≡ (n - 20) / 4 → 4 * r ≤ limit
 few r n l e = omega arith
 
 mul-result : tie.Need-mul-result
@@ -31,8 +33,9 @@ put-matrix-requires : tie.Need-put-matrix-requires
 put-matrix-requires c κs =
     let k = c .before in
     let s = k .before .before .before in
-    let e : rowMeant (s .args .row) ≡ some matrices = rw (k .enum-told7 .given .1) in
-    (s .pre .initiators e, s .pre .targets e, omega arith)
+    let ((w, _), i) = k .enum-told7 .given in
+    let e : rowMeant (s .args .row) ≡ some (matrices (meantWidth w)) = rw i in
+    (s .pre .initiators (meantWidth w) e, s .pre .targets (meantWidth w) e, omega arith)
 
 returns : tie.Need-returns
 unfolding formIn
@@ -65,6 +68,7 @@ unfolding formIn calls body width
 returns-6 c = rw (c .enum-told6 .given .1) (λ g. rw (calls-at g domain, length-call Domain), omega arith)
 
 returns-7 : tie.Need-returns-7
+unfolding formIn
 returns-7 c = let v = c .before in rw (v .before .before .enum-told7 .given .1) (λ g. omega (arith, v .put-matrix .ensures .0 g .next), omega (arith, v .put-matrix .ensures .1))
 
 returns-8 : tie.Need-returns-8

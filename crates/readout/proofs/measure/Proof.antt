@@ -8,12 +8,13 @@ use lib.ListN.{length}
 use Rattle.header.specs.Header.{meant}
 use Rattle.header.proofs.Laws.{front-long}
 use Rattle.rows.specs.Rows.{rowMeant}
+use Rattle.readout.specs.Bounds.{recordMost}
 use Rattle.readout.proofs.Scans.{Counting, counting-start, counting-end, counting-bad, counting-unknown, counting-next, small-record, Turn, turns}
 use Rattle.readout.proofs.measure.Statement.{statement}
 use Rattle.readout.proofs.measure.Tie as tie
 
 abbrev Inv-loop : tie.InvT-loop
-Inv-loop t revision c p₀ q₀ old₀ p q old = (q ≤ 28 + 2000000 * p) × (0 < p) × Counting (meant t) revision c p q old
+Inv-loop t revision c p₀ q₀ old₀ p q old = (q ≤ 28 + recordMost * p) × (0 < p) × Counting (meant t) revision c p q old
 
 abbrev μ-loop : tie.MeasureT-loop
 μ-loop t revision c p₀ q₀ old₀ p q old = length c - p

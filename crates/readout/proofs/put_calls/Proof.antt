@@ -13,7 +13,7 @@ put-records-requires c κs =
 
 put-records-requires-2 : tie.Need-put-records-requires-2
 put-records-requires-2 c κs =
-    let s = c .before .before .before .before .before .before .before .before in
+    let s = c .before .before .before .before .before .before .before .before .before in
     (none-kept (Passed (meant (s .args .t)) (s .args .c .now)) 4096, s .pre)
 
 put-records-requires-3 : tie.Need-put-records-requires-3
@@ -35,6 +35,9 @@ put-calls-spec =
     (λ c κs. search needs)
     (λ c. search needs)
     put-records-requires-2
+    (λ c. search needs)
+    (λ c. search needs)
+    (λ c κs. search needs)
     (λ c. search needs)
     (λ c. search needs)
     (λ c. search needs)

@@ -7,25 +7,28 @@ use native.Mathlib.Omega.{arith}
 use borrow.Author.Needs.{needs}
 use lib.ListN.{replicate}
 use Rattle.format.specs.Layout.{asIs, fld}
+use Rattle.format.specs.Form.{Width}
 use Rattle.format.specs.Normal.{call, eachSet}
 use Rattle.laws.specs.Offsets.{fieldsAt}
 use Rattle.format.specs.Kind.{Cell}
+use Rattle.hmat.specs.Widths.{meantWidth}
+use Rattle.readout.specs.Bounds.{settingMost}
 use Rattle.readout.proofs.Lists.{Coming, all-coming, laid-length, come-set, set-laid}
 use Rattle.readout.proofs.Records.{next-cell}
 use Rattle.readout.proofs.put_cells.Statement.{statement}
 use Rattle.readout.proofs.put_cells.Tie as tie
 
-abbrev cells : ℕ → ℕ → ℕ → List ℕ
-cells t e v = call Cell (e / t ∷ e % t ∷ v ∷ [])
+abbrev cells : Width → ℕ → ℕ → ℕ → List ℕ
+cells w t e v = call (Cell w) (e / t ∷ e % t ∷ v ∷ [])
 
 abbrev Inv-loop : tie.InvT-loop
-Inv-loop bs start t n out₀ at from₀ p₀ i₀ j₀ e₀ out from p i j e =
-    (e ≤ n) × (from ≡ start + 2 * e) × (p ≤ at + 5 * e)
-    × Coming out₀ at (eachSet (cells t) 65535 0 (fieldsAt asIs (replicate n (fld 2)) bs start)) out p (eachSet (cells t) 65535 e (fieldsAt asIs (replicate (n - e) (fld 2)) bs from))
+Inv-loop width bs start t n out₀ at from₀ p₀ i₀ j₀ e₀ out from p i j e =
+    (e ≤ n) × (from ≡ start + 2 * e) × (p ≤ at + settingMost * e)
+    × Coming out₀ at (eachSet (cells (meantWidth width) t) 65535 0 (fieldsAt asIs (replicate n (fld 2)) bs start)) out p (eachSet (cells (meantWidth width) t) 65535 e (fieldsAt asIs (replicate (n - e) (fld 2)) bs from))
     × (i ≡ e / t) × (j ≡ e % t)
 
 abbrev μ-loop : tie.MeasureT-loop
-μ-loop bs start t n out₀ at from₀ p₀ i₀ j₀ e₀ out from p i j e = n - e
+μ-loop width bs start t n out₀ at from₀ p₀ i₀ j₀ e₀ out from p i j e = n - e
 
 loop-holds : tie.Need-loop-holds Inv-loop μ-loop
 loop-holds c =

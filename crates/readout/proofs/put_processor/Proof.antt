@@ -6,7 +6,7 @@ use lib.ListN.{length}
 use lib.Seq.{length-take-le}
 use borrow.Author.Needs.{needs}
 use Rattle.format.specs.Layout.{width}
-use Rattle.format.specs.Table.{pptt}
+use Rattle.format.specs.Table.{pptt, limit}
 use Rattle.format.specs.Form.{layout}
 use Rattle.format.specs.Row.{formIn}
 use Rattle.format.specs.Kind.{Processor, body}
@@ -40,7 +40,7 @@ put-resources-requires c κs =
     let n = v .before .before .before .before .before .before in
     let s = n .before .before .before .before .before in
     let z : v .put-body .result ≡ 13 = v .put-body .ensures .1 ∙ length-call Processor _ in
-    let l : length (s .args .body .now) ≤ 1048576 = s .pre .2 in
+    let l : length (s .args .body .now) ≤ limit = s .pre .2 in
     let k : n .resources-in .result ≡ (length (s .args .body .now) - 20) / 4 = n .resources-in .ensures in
     (s .pre .0, omega arith, omega (arith, s .pre .3))
 
@@ -56,7 +56,7 @@ returns c =
     let s = n .before .before .before .before .before in
     let b = s .args .body .now in
     let z : v .put-body .result ≡ 13 = v .put-body .ensures .1 ∙ length-call Processor _ in
-    let l : length b ≤ 1048576 = s .pre .2 in
+    let l : length b ≤ limit = s .pre .2 in
     let k : n .resources-in .result ≡ (length b - 20) / 4 = n .resources-in .ensures in
     let w = rw (m .named .ensures) at (v .put-body .ensures .0) in
     let j = rw (m .named .ensures) at (v .put-body .ensures .1) in

@@ -9,6 +9,7 @@ use Rattle.format.specs.Row.{processors, caches, initiators, matrices, bridges,
 use Rattle.format.specs.Normal.{calls}
 use Rattle.marks.specs.Marks.{Every}
 use Rattle.frames.specs.Frames.{Passed}
+use Rattle.hmat.specs.Widths.{meantWidth}
 use Rattle.rows.specs.Rows.{rowMeant}
 use Rattle.read.proofs.Refs.{plain-row}
 use Rattle.readout.specs.Places.{callsIn}
@@ -32,8 +33,9 @@ put-cache-requires c κs =
 put-matrix-requires : tie.Need-put-matrix-requires
 put-matrix-requires c κs =
     let s = c .before .before .before .before .before .before .before in
-    let e : rowMeant (s .args .row) ≡ some matrices = rw (c .before .enum-told7 .given .1) in
-    (s .pre .2 .initiators e, s .pre .2 .targets e, search needs)
+    let ((w, _), i) = c .before .enum-told7 .given in
+    let e : rowMeant (s .args .row) ≡ some (matrices (meantWidth w)) = rw i in
+    (s .pre .2 .initiators (meantWidth w) e, s .pre .2 .targets (meantWidth w) e, search needs)
 
 returns : tie.Need-returns
 unfolding formIn

@@ -14,13 +14,14 @@ use Rattle.marks.proofs.Laws.{noted-keeps}
 use Rattle.frames.specs.Frames.{Passed}
 use Rattle.frames.proofs.Marks.{passed-next}
 use Rattle.rows.specs.Rows.{rowMeant}
+use Rattle.readout.specs.Bounds.{recordMost}
 use Rattle.readout.proofs.Scans.{Writing, writing-start, writing-end, writing-bad, writing-unknown, writing-next, small-record, Turn, turns}
 use Rattle.readout.proofs.put_records.Statement.{statement}
 use Rattle.readout.proofs.put_records.Tie as tie
 
 abbrev Inv-loop : tie.InvT-loop
 Inv-loop t revision c marks₀ shift out₀ p₀ q₀ count₀ marks out p q count =
-    (q ≤ 28 + 2000000 * p) × (count ≤ p) × (length marks ≡ length marks₀) × Writing (meant t) revision c out₀ out p q
+    (q ≤ 28 + recordMost * p) × (count ≤ p) × (length marks ≡ length marks₀) × Writing (meant t) revision c out₀ out p q
     × Passed (meant t) c (record { nodes = count; place = p }) × Every (Passed (meant t) c) marks
 
 abbrev μ-loop : tie.MeasureT-loop

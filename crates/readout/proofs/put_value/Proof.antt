@@ -1,12 +1,11 @@
--- `put_value` meets its contract: by the test; a value that is set is laid with the low byte of its index.
-use mathlib.Core.Path.{_≡_, _∙_}
+-- `put_value` meets its contract: by the test; a value that is set is laid with the low bytes of its index.
+use Prim.Native.Nat.{_≤_}
 use native.Mathlib.Omega.{arith}
 use borrow.Author.Needs.{needs}
 use borrow.Author.Tests.{eq-eqb, ne-eqb}
-use Rattle.format.specs.Layout.{width}
-use Rattle.format.specs.Kind.{Initiator, body}
-use Rattle.laws.proofs.Fields.{length-call}
-use Rattle.readout.proofs.Lists.{none-laid, put-laid, low-setting}
+use Rattle.hmat.specs.Widths.{meantWidth}
+use Rattle.readout.specs.Bounds.{settingMost}
+use Rattle.readout.proofs.Lists.{none-laid, put-laid, low-setting, setting-short}
 use Rattle.readout.proofs.put_value.Statement.{statement}
 use Rattle.readout.proofs.put_value.Tie as tie
 
@@ -14,20 +13,20 @@ returns : tie.Need-returns
 returns c = (rw (eq-eqb _ _ (c .if1 .taken)) (none-laid _ _), omega arith)
 
 add-result : tie.Need-add-result
-unfolding body width
 add-result c =
     let v = c .before .before in
-    let z : v .put-body .result ≡ 6 = v .put-body .ensures .1 ∙ length-call Initiator _ in
+    let a = v .before .before .before .before .args in
+    let l : v .put-body .result ≤ settingMost = rw (v .put-body .ensures .1) (setting-short (meantWidth (a .width)) (a .kind) _ _) in
     omega arith
 
 returns-2 : tie.Need-returns-2
-unfolding body width
 returns-2 c =
     let v = c .before .before in
     let s = v .before .before in
     let a = s .before .before .args in
-    let z : v .put-body .result ≡ 6 = v .put-body .ensures .1 ∙ length-call Initiator _ in
-    (rw (ne-eqb _ _ (s .if1 .left)) (put-laid (v .put-body .ensures .0) (v .put-body .ensures .1) (low-setting (a .kind) (a .j) (a .v))), omega arith)
+    let w = meantWidth (a .width) in
+    let l : v .put-body .result ≤ settingMost = rw (v .put-body .ensures .1) (setting-short w (a .kind) _ _) in
+    (rw (ne-eqb _ _ (s .if1 .left)) (put-laid (v .put-body .ensures .0) (v .put-body .ensures .1) (low-setting w (a .kind) (a .j) (a .v))), omega arith)
 
 pub put-value-spec : {M : Type 1} → statement M
 put-value-spec =

@@ -8,18 +8,20 @@ use lib.ListN.{replicate}
 use Rattle.format.specs.Layout.{asIs, fld}
 use Rattle.format.specs.Normal.{eachSet}
 use Rattle.laws.specs.Offsets.{fieldsAt}
+use Rattle.hmat.specs.Widths.{meantWidth}
+use Rattle.readout.specs.Bounds.{settingMost}
 use Rattle.readout.specs.Places.{setting}
 use Rattle.readout.proofs.Lists.{Coming, all-coming, laid-length, come-set, set-laid}
 use Rattle.readout.proofs.put_values.Statement.{statement}
 use Rattle.readout.proofs.put_values.Tie as tie
 
 abbrev Inv-loop : tie.InvT-loop
-Inv-loop kind body start n out₀ at from₀ p₀ i₀ out from p i =
-    (i ≤ n) × (from ≡ start + 4 * i) × (p ≤ at + 6 * i)
-    × Coming out₀ at (eachSet (setting kind) 0 0 (fieldsAt asIs (replicate n (fld 4)) body start)) out p (eachSet (setting kind) 0 i (fieldsAt asIs (replicate (n - i) (fld 4)) body from))
+Inv-loop width kind body start n out₀ at from₀ p₀ i₀ out from p i =
+    (i ≤ n) × (from ≡ start + 4 * i) × (p ≤ at + settingMost * i)
+    × Coming out₀ at (eachSet (setting (meantWidth width) kind) 0 0 (fieldsAt asIs (replicate n (fld 4)) body start)) out p (eachSet (setting (meantWidth width) kind) 0 i (fieldsAt asIs (replicate (n - i) (fld 4)) body from))
 
 abbrev μ-loop : tie.MeasureT-loop
-μ-loop kind body start n out₀ at from₀ p₀ i₀ out from p i = n - i
+μ-loop width kind body start n out₀ at from₀ p₀ i₀ out from p i = n - i
 
 loop-holds : tie.Need-loop-holds Inv-loop μ-loop
 loop-holds c =

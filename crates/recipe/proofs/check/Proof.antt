@@ -2,6 +2,7 @@
 use mathlib.Core.Path.{_≡_, sym, ap, _∙_}
 use Prim.Native.Nat.{ℕ, _<_}
 use mathlib.Core.List.{[], _∷_}
+use mathlib.Core.Logic.{inr}
 use mathlib.Core.Option.{none}
 use native.Mathlib.Omega.{arith}
 use borrow.Author.Needs.{needs}
@@ -62,13 +63,23 @@ returns-4 c =
 returns-5 : tie.Need-returns-5
 returns-5 c =
     let w = c .before in
-    let k = w .before .before .before .before .before in
+    let k = w .before .before .before .before .before .before in
     let o = k .before .before in
     let g = o .before in
     let b = g .before in
     let a = b .before in
     let z = rw (g .get-u82 .ensures) at (sym (o .of-code .ensures) ∙ ap codedAs (k .table .given .1)) in
     w .walk2 .ensures ∙ sym (ap outlined (headed-by _ (sym (a .before .get-u8 .ensures) ∙ a .if1 .left) (b .if2 .left) _ z))
+
+returns-6 : tie.Need-returns-6
+returns-6 c =
+    let k = c .before .before .before .before .before .before in
+    let o = k .before .before in
+    let g = o .before in
+    let b = g .before in
+    let a = b .before in
+    let z = rw (g .get-u82 .ensures) at (sym (o .of-code .ensures) ∙ ap codedAs (k .table .given .1)) in
+    c .walk-long .ensures ∙ sym (ap outlined (headed-by _ (sym (a .before .get-u8 .ensures) ∙ a .if1 .left) (b .if2 .left) _ z))
 
 pub check-spec : {M : Type 1} → statement M
 check-spec =
@@ -87,5 +98,9 @@ check-spec =
     (λ c κs e. let m = c .before in other (m .before .before .table .given .0 .0) (m .match2 .keys2) e)
     returns-4
     (λ c. search needs)
-    (λ c κs e. typed-none 820 (omega arith))
-    returns-5)
+    (λ c κs e. (inr (c .before .if3 .taken), typed-none 820))
+    returns-5
+    (λ c. search needs)
+    (λ c κs. search needs)
+    (λ c κs. search needs)
+    returns-6)

@@ -12,20 +12,20 @@ use Rattle.recipe.proofs.handle.Tie as tie
 
 returns : tie.Need-returns
 unfolding step
-returns c bs t ns p e = sym (turn-judged t ns Handle bs p ∙ rw (stray-handle t ns (c .before .args .st) e (fields (body Handle) bs) (c .match .keys2)))
+returns c bs t u ns p e = sym (turn-judged t u ns Handle bs p ∙ rw (stray-handle t u ns (c .before .args .st) e (fields (body Handle) bs) (c .match .keys2)))
 
 returns-2 : tie.Need-returns-2
-returns-2 c bs t ns p e =
+returns-2 c bs t u ns p e =
     let f = c .before in
     let n = f .before .before in
-    sym (handle-turn t (n .before .before .args .st) p bs _ ns e (n .newest .given .1) ∙ rw (sym (f .is-full .ensures) ∙ c .if1 .taken))
+    sym (handle-turn t u (n .before .before .args .st) p bs _ ns e (n .newest .given .1) ∙ rw (sym (f .is-full .ensures) ∙ c .if1 .taken))
 
 returns-3 : tie.Need-returns-3
-returns-3 c bs t ns p e =
+returns-3 c bs t u ns p e =
     let d = c .before in
     let f = d .before in
     let n = f .before .before in
-    rw (c .grown .ensures) (sym (handle-turn t (n .before .before .args .st) p bs _ ns e (n .newest .given .1) ∙ rw (sym (f .is-full .ensures) ∙ d .if1 .left)))
+    rw (c .grown .ensures) (sym (handle-turn t u (n .before .before .args .st) p bs _ ns e (n .newest .given .1) ∙ rw (sym (f .is-full .ensures) ∙ d .if1 .left)))
 
 pub handle-spec : {M : Type 1} → statement M
 handle-spec =

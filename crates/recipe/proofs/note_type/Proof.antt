@@ -9,7 +9,7 @@ use borrow.Author.Needs.{needs}
 use denote.Enum.Declared.{tagOf}
 use types.Run.{OneOf, miss}
 use Rattle.recipe.specs.declared.Kind.{Kind}
-use Rattle.recipe.specs.declared.Kind.the-variants.{Processor, Resource, Cache, Memory, Acpi, Pci, Rintc, Domain, Matrix, Initiator, Target, Cell, Side, Handle, Bridge, Window, WindowTarget, Xor, Map}
+use Rattle.recipe.specs.declared.Kind.the-variants.{Processor, Resource, Cache, Memory, Acpi, Pci, Rintc, Domain, Matrix, Initiator, Target, Cell, Side, Handle, Bridge, Window, WindowTarget, Xor, Map, WideMatrix, WideInitiator, WideTarget, WideCell}
 use Rattle.recipe.specs.Kinds.{meantKind}
 use Rattle.recipe.specs.Machine.{noted}
 use Rattle.recipe.proofs.Kind.{the-type}
@@ -17,10 +17,10 @@ use Rattle.recipe.proofs.note_type.Statement.{statement}
 use Rattle.recipe.proofs.note_type.Tie as tie
 
 -- any other kind leaves the words as they are
-left : (k : Kind) (i : ℕ) (ws : List ℕ) → OneOf (0 ∷ 1 ∷ 3 ∷ 4 ∷ 5 ∷ 6 ∷ 7 ∷ 8 ∷ 9 ∷ 10 ∷ 11 ∷ 12 ∷ 13 ∷ 14 ∷ 15 ∷ 16 ∷ 17 ∷ 18 ∷ []) (tagOf the-type k) → noted (meantKind k) i ws ≡ ws
+left : (k : Kind) (i : ℕ) (ws : List ℕ) → OneOf (0 ∷ 1 ∷ 3 ∷ 4 ∷ 5 ∷ 6 ∷ 7 ∷ 8 ∷ 9 ∷ 10 ∷ 11 ∷ 12 ∷ 13 ∷ 14 ∷ 15 ∷ 16 ∷ 17 ∷ 18 ∷ 19 ∷ 20 ∷ 21 ∷ 22 ∷ []) (tagOf the-type k) → noted (meantKind k) i ws ≡ ws
 left Processor i ws h = refl
 left Resource i ws h = refl
-left Cache i ws h = absurd (miss (0 ∷ 1 ∷ 3 ∷ 4 ∷ 5 ∷ 6 ∷ 7 ∷ 8 ∷ 9 ∷ 10 ∷ 11 ∷ 12 ∷ 13 ∷ 14 ∷ 15 ∷ 16 ∷ 17 ∷ 18 ∷ []) 2 tt h)
+left Cache i ws h = absurd (miss (0 ∷ 1 ∷ 3 ∷ 4 ∷ 5 ∷ 6 ∷ 7 ∷ 8 ∷ 9 ∷ 10 ∷ 11 ∷ 12 ∷ 13 ∷ 14 ∷ 15 ∷ 16 ∷ 17 ∷ 18 ∷ 19 ∷ 20 ∷ 21 ∷ 22 ∷ []) 2 tt h)
 left Memory i ws h = refl
 left Acpi i ws h = refl
 left Pci i ws h = refl
@@ -37,6 +37,10 @@ left Window i ws h = refl
 left WindowTarget i ws h = refl
 left Xor i ws h = refl
 left Map i ws h = refl
+left WideMatrix i ws h = refl
+left WideInitiator i ws h = refl
+left WideTarget i ws h = refl
+left WideCell i ws h = refl
 
 -- a bit of a word, and a sum with no bit that both have
 bit : (r : ℕ) → r < 64 → 1 * 2 ^ r % 18446744073709551616 ≡ 2 ^ r

@@ -9,12 +9,12 @@ use Rattle.recipe.proofs.Numbers.{unnamed, past}
 use Rattle.recipe.proofs.of_hmat.Statement.{statement}
 use Rattle.recipe.proofs.of_hmat.Tie as tie
 
-rest : tie.Need-returns-9
+rest : tie.Need-returns-13
 unfolding kindOf
 rest c =
     let b = c .before .before .before .args .byte in
     let o = c .match2 .rest in
-    let e : b ≡ 54 = le-antisymm (c .before .before .before .pre .1) (past (past (past (past (past (past (c .before .before .before .pre .0) (o .0 .0 .0 .0 .0 .1)) (o .0 .0 .0 .0 .1)) (o .0 .0 .0 .1)) (o .0 .0 .1)) (o .0 .1)) (o .1)) in
+    let e : b ≡ 58 = le-antisymm (c .before .before .before .pre .1) (past (past (past (past (past (past (past (past (past (past (c .before .before .before .pre .0) (o .0 .0 .0 .0 .0 .0 .0 .0 .0 .1)) (o .0 .0 .0 .0 .0 .0 .0 .0 .1)) (o .0 .0 .0 .0 .0 .0 .0 .1)) (o .0 .0 .0 .0 .0 .0 .1)) (o .0 .0 .0 .0 .0 .1)) (o .0 .0 .0 .0 .1)) (o .0 .0 .0 .1)) (o .0 .0 .1)) (o .0 .1)) (o .1)) in
     rw (c .before .enum-told3 .given .1, e) (refl, refl)
 
 pub of-hmat-spec : {M : Type 1} → statement M
@@ -34,5 +34,9 @@ of-hmat-spec =
     (λ c. rw (c .before .enum-told3 .given .1, c .match2 .keys4) (refl, refl))
     (λ c. rw (c .before .enum-told3 .given .1, c .match2 .keys5) (refl, refl))
     (λ c. rw (c .before .enum-told3 .given .1, c .match2 .keys6) (refl, refl))
+    (λ c. rw (c .before .enum-told3 .given .1, c .match2 .keys7) (refl, refl))
+    (λ c. rw (c .before .enum-told3 .given .1, c .match2 .keys8) (refl, refl))
+    (λ c. rw (c .before .enum-told3 .given .1, c .match2 .keys9) (refl, refl))
+    (λ c. rw (c .before .enum-told3 .given .1, c .match2 .keys10) (refl, refl))
     rest
     (λ c. rw (c .enum-told4 .given .1) (unnamed cedt (c .before .before .args .byte) (λ l m. omega arith))))

@@ -10,27 +10,27 @@ use Rattle.recipe.proofs.processor.Statement.{statement}
 use Rattle.recipe.proofs.processor.Tie as tie
 
 returns : tie.Need-returns
-returns c t ns p e b q w =
+returns c t u ns p e b q w =
     let g = c .before .before .before in
     let a = g .before .before .before .args in
-    sym (processor-turn t ns (a .st) e (a .types .now) (w .typed (sym (kind-home t b Processor q))) p (a .bytes .now) ∙ rw (← g .parent-in .ensures, le-ltb _ _ (c .if1 .taken)))
+    sym (processor-turn t u ns (a .st) e (a .types .now) (w .typed (sym (kind-home t b Processor q))) p (a .bytes .now) ∙ rw (← g .parent-in .ensures, le-ltb _ _ (c .if1 .taken)))
 
 returns-2 : tie.Need-returns-2
-returns-2 c t ns p e b q w =
+returns-2 c t u ns p e b q w =
     let d = c .before .before in
     let g = d .before .before .before in
     let a = g .before .before .before .args in
-    sym (processor-turn t ns (a .st) e (a .types .now) (w .typed (sym (kind-home t b Processor q))) p (a .bytes .now)
+    sym (processor-turn t u ns (a .st) e (a .types .now) (w .typed (sym (kind-home t b Processor q))) p (a .bytes .now)
     ∙ rw (← g .parent-in .ensures, lt-ltb _ _ (d .if1 .left), failed (c .before .is-processor-or-none .ensures) (c .if2 .taken)))
 
 returns-3 : tie.Need-returns-3
-returns-3 c t ns p e b q w =
+returns-3 c t u ns p e b q w =
     let f = c .before in
     let d = f .before .before in
     let g = d .before .before .before in
     let a = g .before .before .before .args in
     rw (c .grown .ensures)
-    (sym (processor-turn t ns (a .st) e (a .types .now) (w .typed (sym (kind-home t b Processor q))) p (a .bytes .now)
+    (sym (processor-turn t u ns (a .st) e (a .types .now) (w .typed (sym (kind-home t b Processor q))) p (a .bytes .now)
     ∙ rw (← g .parent-in .ensures, lt-ltb _ _ (d .if1 .left), passed (f .before .is-processor-or-none .ensures) (f .if2 .left))))
 
 pub processor-spec : {M : Type 1} → statement M

@@ -6,6 +6,7 @@ use borrow.Author.Needs.{needs}
 use lib.ListN.{length}
 use Rattle.format.specs.Bytes.{part}
 use Rattle.format.specs.Table.{headOf}
+use Rattle.format.specs.Form.{byte}
 use Rattle.format.specs.Kind.{noKind}
 use Rattle.header.specs.Header.{meant}
 use Rattle.recipe.specs.Kinds.{meantKind, named}
@@ -23,7 +24,7 @@ abbrev μ-loop : tie.MeasureT-loop
 μ-loop recipe table types₀ at₀ made₀ st₀ types at made st = length recipe - at
 
 loop-holds : tie.Need-loop-holds Inv-loop μ-loop
-loop-holds c = rw (c .new .ensures) (starts-so _ _ _ (c .before .before .before .pre), refl)
+loop-holds c = rw (c .new .ensures byte) (starts-so _ _ _ (c .before .before .before .pre), refl)
 
 -- the newest node lacks an entry
 returns : tie.Need-returns Inv-loop μ-loop

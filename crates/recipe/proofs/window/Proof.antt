@@ -21,7 +21,7 @@ made-requires c κs =
 
 returns : tie.Need-returns
 unfolding body fieldsWith step refsGood ranges badField
-returns c t ns p e =
+returns c t u ns p e =
     let w = c .before in
     let l = w .before in
     let b = l .before in
@@ -31,7 +31,7 @@ returns c t ns p e =
     let m = f .from-body .result in
     let i : m .«interleave_ways» ≡ at vs 2 = ap (λ vs. at vs 2) (f .from-body .ensures) in
     let bad = b .bad-field .ensures ∙ ap (λ vs. badField (node (window (ways (at vs 2))) vs)) (f .from-body .ensures) in
-    rw (c .made .ensures, l .len .ensures, w .num-interleaved-ways .ensures, i) (plain-turn Window (window (ways (at vs 2))) bs vs refl (λ ms. refl) (λ ok vs. refl) t ns p _ _ bad e)
+    rw (c .made .ensures, l .len .ensures, w .num-interleaved-ways .ensures, i) (plain-turn Window (window (ways (at vs 2))) bs vs refl refl (λ ms. refl) (λ ok vs. refl) t u ns p _ _ bad e)
 
 pub window-spec : {M : Type 1} → statement M
 window-spec = tie.close (tie.spec (λ c κs. search needs) (λ c κs. search needs) (λ c κs. search needs) (λ c κs. search needs) made-requires returns)

@@ -1,11 +1,11 @@
--- `hmat_row` meets its contract: each arm has the revision and the type of one row.
+-- `hmat_row` meets its contract: each arm has the revision and the type of one row, or of the two matrices.
 use mathlib.Core.Path.{refl, _∙_}
 use borrow.Author.Needs.{needs}
 use borrow.Author.Tests.{eq-eqb, ne-eqb}
 use Rattle.format.specs.Bytes.{part}
 use Rattle.format.specs.Table.{hmat}
-use Rattle.format.specs.Row.{domains, matrices, sides, column, matches, rowOf}
-use Rattle.rows.proofs.Matches.{other-revision, by-column}
+use Rattle.format.specs.Row.{domains, sides, column, matches, rowOf}
+use Rattle.rows.proofs.Matches.{other-revision, by-column, by-counts}
 use Rattle.rows.proofs.hmat_row.Statement.{statement}
 use Rattle.rows.proofs.hmat_row.Tie as tie
 
@@ -24,8 +24,7 @@ hmat-row-spec =
     (λ c κs. search needs)
     (λ c κs. search needs)
     (λ c κs. search needs)
-    (λ c κs. search needs)
     (λ c. c .when .ensures ∙ by-column domains _ tt (c .before .before .before .if1 .left) (c .before .before .long-type .ensures) (c .before .match .keys1) refl)
-    (λ c. c .when2 .ensures ∙ by-column matrices _ tt (c .before .before .before .before .if1 .left) (c .before .before .before .long-type .ensures) (c .before .before .match .keys2) (c .before .fits2 .ensures))
-    (λ c. c .when3 .ensures ∙ by-column sides _ tt (c .before .before .before .before .if1 .left) (c .before .before .before .long-type .ensures) (c .before .before .match .keys3) (c .before .fits3 .ensures))
+    (λ c. c .matrix-row .ensures ∙ by-counts _ (c .before .before .before .if1 .left) (c .before .before .long-type .ensures) (c .before .match .keys2))
+    (λ c. c .when2 .ensures ∙ by-column sides _ tt (c .before .before .before .before .if1 .left) (c .before .before .before .long-type .ensures) (c .before .before .match .keys3) (c .before .fits2 .ensures))
     returns-5)

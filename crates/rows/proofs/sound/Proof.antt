@@ -1,6 +1,7 @@
 -- `sound` meets its contract: each row by its node, of which a processor and a domain have no ranges.
 use mathlib.Core.Path.{_∙_}
 use borrow.Author.Needs.{needs}
+use Rattle.format.specs.Form.{byte}
 use Rattle.format.specs.Row.{formIn}
 use Rattle.rows.proofs.Laws.{processor-fixed, domain-fixed}
 use Rattle.rows.proofs.sound.Statement.{statement}
@@ -42,7 +43,7 @@ sound-spec =
     (λ c. rw (c .before .enum-told4 .given .1) (c .is-sound3 .ensures))
     (λ c. rw (c .before .enum-told5 .given .1) (c .is-sound4 .ensures))
     (λ c. rw (c .before .enum-told6 .given .1) (c .is-fixed2 .ensures ∙ domain-fixed _))
-    (λ c. rw (c .before .enum-told7 .given .1) (c .is-sound5 .ensures))
+    (λ c. rw (c .before .enum-told7 .given .1) (c .is-sound5 .ensures byte))
     (λ c. rw (c .before .enum-told8 .given .1) (c .is-sound6 .ensures))
     (λ c. rw (c .before .enum-told9 .given .1) (c .is-sound7 .ensures))
     (λ c. rw (c .before .enum-told10 .given .1) (c .is-sound8 .ensures))

@@ -5,10 +5,10 @@ use Rattle.shows.proofs.records.Statement.{statement}
 use Rattle.shows.proofs.records.Tie as tie
 
 abbrev Inv-loop : tie.InvT-loop
-Inv-loop table count place₀ i₀ place i = Unit
+Inv-loop table count all place₀ i₀ place i = Unit
 
 abbrev μ-loop : tie.MeasureT-loop
-μ-loop table count place₀ i₀ place i = count - i
+μ-loop table count all place₀ i₀ place i = count - i
 
 first-place-requires : tie.Need-first-place-requires Inv-loop μ-loop
 first-place-requires c κs = search needs

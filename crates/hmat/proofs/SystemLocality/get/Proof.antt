@@ -8,7 +8,7 @@ use Rattle.hmat.proofs.SystemLocality.get.Tie as tie
 
 returns : tie.Need-returns
 unfolding layout formIn
-returns c =
+returns c w =
     let d = c .before .before in
     let f = d .before .before .before in
     rw (node-at, f .get-u8 .ensures, d .before .before .get-u82 .ensures, d .before .get-u83 .ensures, d .get-u64 .ensures, c .before .get-u32 .ensures, c .get-u322 .ensures, f .before .rest .ensures)

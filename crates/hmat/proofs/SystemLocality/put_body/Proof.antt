@@ -1,29 +1,13 @@
--- `SystemLocality::put_body` meets its contract: the numbers that it writes are those of the call.
-use mathlib.Core.Path.{sym}
+-- `SystemLocality::put_body` meets its contract: the width is the normal form's.
 use borrow.Author.Needs.{needs}
-use Rattle.format.specs.Layout.{width}
-use Rattle.format.specs.Kind.{Matrix, body}
-use Rattle.laws.proofs.Fields.{call-join, length-call}
 use Rattle.hmat.proofs.SystemLocality.put_body.Statement.{statement}
 use Rattle.hmat.proofs.SystemLocality.put_body.Tie as tie
 
 returns : tie.Need-returns
-unfolding body width
-returns c = (rw (call-join Matrix) (c .before .before .put-all .ensures), sym (length-call Matrix _))
+returns c =
+    let d = c .before .before in
+    let e = d .before .before .width .ensures in
+    (rw (← e) (d .put-as .ensures .0), rw (← e) (d .put-as .ensures .1))
 
 pub put-body-spec : {M : Type 1} → statement M
-put-body-spec =
-    tie.close
-    (tie.spec
-    (λ c. search needs)
-    (λ c. search needs)
-    (λ c. search needs)
-    (λ c. search needs)
-    (λ c. search needs)
-    (λ c. search needs)
-    (λ c. search needs)
-    (λ c. search needs)
-    (λ c κs. search needs)
-    (λ c. search needs)
-    (λ c. search needs)
-    returns)
+put-body-spec = tie.close (tie.spec (λ c κs. search needs) (λ c κs. search needs) (λ c. search needs) returns)

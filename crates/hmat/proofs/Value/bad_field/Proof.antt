@@ -9,4 +9,4 @@ use Rattle.hmat.proofs.Value.bad_field.Tie as tie
 pub bad-field-spec : {M : Type 1} → statement M
 unfolding firstBad body
 bad-field-spec =
-    tie.close (tie.spec (λ c. search needs) (λ c. search needs) (λ c. rw (le-ltb _ _ (c .if1 .taken))) (λ c. rw (lt-ltb _ _ (c .if1 .left))))
+    tie.close (tie.spec (λ c. search needs) (λ c. search needs) (λ c w. rw (le-ltb _ _ (c .if1 .taken))) (λ c w. rw (lt-ltb _ _ (c .if1 .left))))

@@ -1,5 +1,4 @@
--- `Value::put_body` meets its contract: the numbers that it writes are those of the call, whose kind is any byte.
-use mathlib.Core.Path.{sym}
+-- `Value::put_body` meets its contract: the numbers that it writes are those of the call, in either width.
 use borrow.Author.Needs.{needs}
 use Rattle.format.specs.Layout.{width}
 use Rattle.format.specs.Kind.{Initiator, body}
@@ -9,11 +8,20 @@ use Rattle.hmat.proofs.Value.put_body.Statement.{statement}
 use Rattle.hmat.proofs.Value.put_body.Tie as tie
 
 returns : tie.Need-returns
-unfolding body width
+unfolding width body
 returns c =
     let d = c .before .before in
-    let a = d .before .before .before .before .before .before .before .args in
-    (rw (value-join (a .kind) (a .self) (search needs)) (d .put-all .ensures), sym (length-call Initiator _))
+    let e = d .before .before .before .before in
+    let a = e .before .before .before .before .before .args in
+    (rw (value-join _ (a .kind) (a .self) (search needs), e .enum-told .given .1) (d .put-all .ensures), rw (length-call (Initiator _), e .enum-told .given .1))
+
+returns-2 : tie.Need-returns-2
+unfolding width body
+returns-2 c =
+    let d = c .before .before in
+    let e = d .before .before .before .before in
+    let a = e .before .before .before .before .before .args in
+    (rw (value-join _ (a .kind) (a .self) (search needs), e .enum-told2 .given .1) (d .put-all2 .ensures), rw (length-call (Initiator _), e .enum-told2 .given .1))
 
 pub put-body-spec : {M : Type 1} → statement M
 put-body-spec =
@@ -23,7 +31,15 @@ put-body-spec =
     (λ c. search needs)
     (λ c. search needs)
     (λ c. search needs)
+    (λ c. search needs)
     (λ c κs. search needs)
     (λ c. search needs)
     (λ c. search needs)
-    returns)
+    (λ c. search needs)
+    (λ c. search needs)
+    (λ c κs. search needs)
+    (λ c. search needs)
+    (λ c. search needs)
+    returns
+    (λ c. search needs)
+    returns-2)

@@ -10,7 +10,7 @@ use borrow.Author.Tests.{lt-ltb, le-ltb}
 use Rattle.format.specs.Kind.{isKind}
 use Rattle.format.specs.Kind as format
 use Rattle.recipe.specs.declared.Kind.{Kind}
-use Rattle.recipe.specs.declared.Kind.the-variants.{Processor, Resource, Cache, Memory, Acpi, Pci, Rintc, Domain, Matrix, Initiator, Target, Cell, Side, Handle, Bridge, Window, WindowTarget, Xor, Map}
+use Rattle.recipe.specs.declared.Kind.the-variants.{Processor, Resource, Cache, Memory, Acpi, Pci, Rintc, Domain, Matrix, Initiator, Target, Cell, Side, Handle, Bridge, Window, WindowTarget, Xor, Map, WideMatrix, WideInitiator, WideTarget, WideCell}
 use Rattle.recipe.specs.declared.Newest as kept
 use Rattle.recipe.specs.declared.Newest.the-variants as is
 use Rattle.recipe.specs.Kinds.{meantKind, named}
@@ -24,14 +24,14 @@ use Rattle.recipe.proofs.Newest.lacks.Tie as tie
 -- any other node lacks nothing
 other-node : (n : kept.Newest) (o : Option format.Kind) → OneOf (0 ∷ 1 ∷ 2 ∷ 4 ∷ 5 ∷ []) (tagOf newests.the-type n) → lacks n o ≡ false
 other-node (is.Processor n) o h = refl
-other-node (is.Matrix i t) o h = refl
+other-node (is.Matrix w i t) o h = refl
 other-node (is.Side n) o h = refl
 other-node (is.Window needs n) o h = absurd (miss (0 ∷ 1 ∷ 2 ∷ 4 ∷ 5 ∷ []) 3 tt h)
 other-node (is.Xor n) o h = refl
 other-node is.Other o h = refl
 
 -- any other kind is no target
-other-kind : (k : Kind) → OneOf (0 ∷ 1 ∷ 2 ∷ 3 ∷ 4 ∷ 5 ∷ 6 ∷ 7 ∷ 8 ∷ 9 ∷ 10 ∷ 11 ∷ 12 ∷ 13 ∷ 14 ∷ 15 ∷ 17 ∷ 18 ∷ []) (tagOf kinds.the-type k) → isKind format.WindowTarget (some (meantKind k)) ≡ false
+other-kind : (k : Kind) → OneOf (0 ∷ 1 ∷ 2 ∷ 3 ∷ 4 ∷ 5 ∷ 6 ∷ 7 ∷ 8 ∷ 9 ∷ 10 ∷ 11 ∷ 12 ∷ 13 ∷ 14 ∷ 15 ∷ 17 ∷ 18 ∷ 19 ∷ 20 ∷ 21 ∷ 22 ∷ []) (tagOf kinds.the-type k) → isKind format.WindowTarget (some (meantKind k)) ≡ false
 other-kind Processor h = refl
 other-kind Resource h = refl
 other-kind Cache h = refl
@@ -48,9 +48,13 @@ other-kind Side h = refl
 other-kind Handle h = refl
 other-kind Bridge h = refl
 other-kind Window h = refl
-other-kind WindowTarget h = absurd (miss (0 ∷ 1 ∷ 2 ∷ 3 ∷ 4 ∷ 5 ∷ 6 ∷ 7 ∷ 8 ∷ 9 ∷ 10 ∷ 11 ∷ 12 ∷ 13 ∷ 14 ∷ 15 ∷ 17 ∷ 18 ∷ []) 16 tt h)
+other-kind WindowTarget h = absurd (miss (0 ∷ 1 ∷ 2 ∷ 3 ∷ 4 ∷ 5 ∷ 6 ∷ 7 ∷ 8 ∷ 9 ∷ 10 ∷ 11 ∷ 12 ∷ 13 ∷ 14 ∷ 15 ∷ 17 ∷ 18 ∷ 19 ∷ 20 ∷ 21 ∷ 22 ∷ []) 16 tt h)
 other-kind Xor h = refl
 other-kind Map h = refl
+other-kind WideMatrix h = refl
+other-kind WideInitiator h = refl
+other-kind WideTarget h = refl
+other-kind WideCell h = refl
 
 returns : tie.Need-returns
 returns c = sym (other-node (c .before .args .self) (named (c .before .args .next)) (c .match .keys2))

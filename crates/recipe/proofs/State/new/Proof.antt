@@ -8,7 +8,7 @@ use Rattle.recipe.proofs.State.new.Tie as tie
 
 returns : tie.Need-returns
 unfolding sizes
-returns c = rw (table-back, add-zero, c .front .ensures)
+returns c w = rw (table-back, add-zero, c .front .ensures)
 
 pub new-spec : {M : Type 1} → statement M
 new-spec = tie.close (tie.spec (λ c κs. search needs) returns)

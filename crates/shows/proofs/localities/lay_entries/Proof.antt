@@ -1,0 +1,25 @@
+-- `shows::localities::lay_entries` is safe and ends: one target fewer is left with each turn.
+use Prim.Native.Nat.{_-_}
+use borrow.Author.Needs.{needs}
+use Rattle.shows.proofs.localities.lay_entries.Statement.{statement}
+use Rattle.shows.proofs.localities.lay_entries.Tie as tie
+
+abbrev Inv-loop : tie.InvT-loop
+Inv-loop line₀ start table g i from to at₀ t₀ line at t = Unit
+
+abbrev μ-loop : tie.MeasureT-loop
+μ-loop line₀ start table g i from to at₀ t₀ line at t = to - t
+
+pub lay-entries-spec : {M : Type 1} → statement M
+lay-entries-spec =
+    tie.close
+    (tie.spec
+    Inv-loop
+    μ-loop
+    (λ c. search needs)
+    (λ c κs. search needs)
+    (λ c κs. search needs)
+    (λ c. search needs)
+    (λ c. search needs)
+    (λ c. search needs)
+    (λ c. search needs))
