@@ -218,7 +218,7 @@ joined-next w k vs (seesXor {n} {us} {ns}) e = list-next w k Map 0 255 n (xor (s
 joined-next w k vs seesOther e = never e
 
 -- settings that suit have indices as wide as the counts
-same-width : (o w : Width) → suits (sets o) w ≡ true → o ≡ w
+pub same-width : (o w : Width) → suits (sets o) w ≡ true → o ≡ w
 same-width byte byte e = refl
 same-width byte pair e = never e
 same-width pair byte e = never e

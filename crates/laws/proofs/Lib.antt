@@ -21,7 +21,6 @@ pub mod Heads
 pub mod Builds
 pub mod Calls
 pub mod Settings
-pub mod Swaps
 pub mod Found
 pub mod Walks
 pub mod Parts
@@ -40,3 +39,7 @@ pub mod Outs
 pub mod Cases
 pub mod Sole
 pub mod Versions
+pub mod Shuffles
+pub mod Records
+pub mod AnyOrder
+pub mod NotClaimed

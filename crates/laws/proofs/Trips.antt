@@ -46,7 +46,7 @@ normal-same r m b e = rw e (normal-means r m b e)
 
 -- ---- the header of an accepted table
 
-same-true : (xs ys : List ℕ) → same xs ys ≡ true → xs ≡ ys
+pub same-true : (xs ys : List ℕ) → same xs ys ≡ true → xs ≡ ys
 unfolding same
 same-true [] [] e = refl
 same-true [] (y ∷ ys) e = cc

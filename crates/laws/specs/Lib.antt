@@ -6,6 +6,7 @@ pub mod Cases
 pub mod Words
 pub mod Demand1
 pub mod Before
+pub mod AnyOrder
 pub mod Demand2
 pub mod Demand3
 pub mod Demand1Read
