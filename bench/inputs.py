@@ -198,14 +198,6 @@ def wide_column(limit):
     return settings(n, n, b"".join(struct.pack("<BHHH", 58, i, 0, i) for i in range(n)), wide)(limit)
 
 
-def loud(make):
-    """A recipe whose head has 0xff behind the table code: there are passes that go twice by such a byte."""
-    def made(limit):
-        quiet = make(limit)
-        return quiet[:2] + b"\xff" * 26 + quiet[28:]
-    return made
-
-
 def refused(make, last):
     """A recipe with one record more, which is refused."""
     return lambda limit: make(limit) + last
@@ -240,7 +232,6 @@ RECIPES = {
     "short processors, parent the one before": chain(processor, lambda k, rng: k),
     "short processors, parent at random": chain(processor, lambda k, rng: rng.randrange(k) + 1),
     "short processors, parents from both ends in turn": chain(processor, lambda k, rng: 1 if k % 2 else k),
-    "short processors, parent at random, behind a head of 0xff": loud(chain(processor, lambda k, rng: rng.randrange(k) + 1)),
     "caches, next level the first": chain(cache, lambda k, rng: 1),
     "caches, next level the one before": chain(cache, lambda k, rng: k),
     "caches, next level at random": chain(cache, lambda k, rng: rng.randrange(k) + 1),
@@ -485,7 +476,6 @@ TABLES = {
     "full processors over 2-byte records, at the end one with a bad count": short_front(1024, last=processor_at()[:16] + b"\x01\x00\x00\x00"),
     "full processors over short ones, at the end an unknown record": referring(processor_at() * 48 + cache_at(), [36 + 960], 36 + 940, last=unknown(9)),
     "full processors over 2-byte records, revision 4": short_front(1024, revision=4),
-    "full processors over 2-byte records, revision 255": short_front(1024, revision=255),
     "SRAT of 2-byte records": repeated(b"SRAT", unknown(7)),
     "SRAT of RINTC of 16 bytes": repeated(b"SRAT", OLD_RINTC),
     "SRAT of RINTC of 16 bytes, at the end an unknown record": lambda limit: table(b"SRAT", OLD_RINTC * ((limit - 50) // 16) + unknown(9)),

@@ -7,8 +7,7 @@
  * pointer but NULL), what is written to overlaps nothing else that is lent, and nobody else writes during a call.
  *
  * A call allocates nothing. What it keeps stands on the stack: of a PPTT longer than 1,048,576 bytes 512 KB of marks, while a PPTT's recipe
- * of 682,240 bytes or more is checked 420 KB, and of some of these twice as much; of shorter ones 32 KB and 6.6 KB. Give a thread that calls
- * at least 2 MiB of stack.
+ * of 682,240 bytes or more is checked 420 KB; of shorter ones 32 KB and 6.6 KB. Give a thread that calls at least 2 MiB of stack.
  */
 #ifndef ISPALMUTZU_ACPI_H
 #define ISPALMUTZU_ACPI_H

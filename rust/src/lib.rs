@@ -2,7 +2,7 @@
 //! back, [`read_out`] its recipe. The calls answer what the contracts of crate `acpi` say, for every input.
 //!
 //! A call allocates nothing. What it keeps stands on the stack: of a PPTT longer than 1,048,576 bytes 512 KB of marks, while a
-//! PPTT's recipe of 682,240 bytes or more is checked 420 KB, and of some of these twice as much; of shorter ones 32 KB and 6.6 KB.
+//! PPTT's recipe of 682,240 bytes or more is checked 420 KB; of shorter ones 32 KB and 6.6 KB.
 //! Give a thread that calls at least 2 MiB of stack, as std does.
 //!
 //! The modules [`pptt`], [`srat`], [`hmat`] and [`cedt`] have the names of crate acpi_tables 0.2.1: they write down the calls

@@ -746,32 +746,30 @@ fn put_records(
 }
 
 // The same with the marks of a table that is longer than others; most: how many records it may have. LLVM does not inline a function that
-// calls itself, so that no other table pays for this room: once more from the end, where nothing is left to write, if a byte of the head
-// that the compiler does not know is 255.
+// calls itself, so that no other table pays for this room; again is 0, since no slice has usize::MAX bytes, but LLVM does not know it.
 fn put_long(
     recipe: &[u8],
     table: Table,
     out: &mut [u8],
     most: usize,
     first: State,
-    again: u8,
+    again: usize,
 ) -> State
     requires { ⌜ Ready (now recipe) (meant table) first (now out) [] ⌝ }
     ensures { λ r. ⌜ (length (now (recipe .entry)) ≤ r .at) × Ends (now (recipe .entry)) (meant table) first (now (out .entry)) [] r (now (out .exit)) ⌝ }
 {
+    if 0 < again {
+        return put_long(recipe, table, out, most, first, again - 1);
+    }
     let mut marks = [0u64; marks::MOST];
-    let last = put_records(
+    put_records(
         recipe,
         table,
         out,
         &mut marks,
         marks::spread(most, marks::MOST),
         first,
-    );
-    if 0 < again {
-        return put_long(recipe, table, out, most, last, again - 1);
-    }
-    last
+    )
 }
 
 // The same with marks of its own: as many as a table of so many bytes asks for where it has references, in a PPTT.
@@ -786,8 +784,7 @@ fn put_all(recipe: &[u8], table: Table, out: &mut [u8], len: usize, first: State
             return put_records(recipe, table, out, &mut few, 0, first);
         }
         if marks::LONG < len {
-            let again = field::get_u8(recipe, recipe::HEAD_LEN - 1) / 255;
-            return put_long(recipe, table, out, most, first, again);
+            return put_long(recipe, table, out, most, first, recipe.len() / usize::MAX);
         }
         let mut many = [0u64; marks::MANY];
         return put_records(

@@ -223,22 +223,22 @@ fn judge_all(t: Table, c: &[u8], marks: &mut [u64], shift: u32, revision: u8, ma
     Accepted::Records(count)
 }
 
-// The same, with room for the most marks, and once more for each of again: LLVM does not inline a function that calls itself, so that no other table pays for that room.
-fn scan_long(t: Table, c: &[u8], revision: u8, mask: u32, again: u8) -> Accepted
+// The same, with room for the most marks. LLVM does not inline a function that calls itself, so that no other table pays for that room;
+// again is 0, since no slice has usize::MAX bytes, but LLVM does not know it.
+fn scan_long(t: Table, c: &[u8], revision: u8, mask: u32, again: usize) -> Accepted
     requires { ⌜ length (now c) ≤ limit ⌝ }
     ensures { λ r. ⌜ acceptedAs r ≡ counted (walk (meant t) revision mask [] (framesOf (meant t) (now (c .entry)))) ⌝ }
 {
-    let mut most = [0u64; marks::MOST];
-    let shift = marks::spread(c.len(), marks::MOST);
-    let answer = judge_all(t, c, &mut most, shift, revision, mask);
     if 0 < again {
         return scan_long(t, c, revision, mask, again - 1);
     }
-    answer
+    let mut most = [0u64; marks::MOST];
+    let shift = marks::spread(c.len(), marks::MOST);
+    judge_all(t, c, &mut most, shift, revision, mask)
 }
 
-// The same, with room for marks where there are references: in a PPTT, for more the longer it is.
-fn scan(t: Table, c: &[u8], revision: u8, mask: u32) -> Accepted
+// The same, with room for marks where there are references: in a PPTT, for more the longer it is. again is for scan_long.
+fn scan(t: Table, c: &[u8], revision: u8, mask: u32, again: usize) -> Accepted
     requires { ⌜ length (now c) ≤ limit ⌝ }
     ensures { λ r. ⌜ acceptedAs r ≡ counted (walk (meant t) revision mask [] (framesOf (meant t) (now (c .entry)))) ⌝ }
 {
@@ -253,7 +253,7 @@ fn scan(t: Table, c: &[u8], revision: u8, mask: u32) -> Accepted
             let shift = marks::spread(c.len(), marks::MANY);
             return judge_all(t, c, &mut many, shift, revision, mask);
         }
-        return scan_long(t, c, revision, mask, revision / 255);
+        return scan_long(t, c, revision, mask, again);
     }
     let mut one = [0u64; 1];
     judge_all(t, c, &mut one, 63, revision, mask)
@@ -264,7 +264,13 @@ pub fn accept(table: &[u8], mask: u32) -> Accepted
     ensures { λ r. ⌜ acceptedAs r ≡ counted (format.accept (now (table .entry)) mask) ⌝ }
 {
     match frames::judge_head(table) {
-        Judged::Table(t) => scan(t, frames::own(table), TableHeader::revision_in(table), mask),
+        Judged::Table(t) => scan(
+            t,
+            frames::own(table),
+            TableHeader::revision_in(table),
+            mask,
+            table.len() / usize::MAX,
+        ),
         Judged::Refused(r) => Accepted::Refused(r),
     }
 }

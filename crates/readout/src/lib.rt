@@ -593,17 +593,19 @@ fn put_records(t: Table, revision: u8, c: &[u8], marks: &mut [u64], shift: u32, 
     }
 }
 
-// The same with the most marks, and once more for each of again: LLVM does not inline a function that calls itself, so that no other table pays for their room.
-fn put_long(t: Table, revision: u8, c: &[u8], out: &mut [u8], again: u8)
+// The same with the most marks. LLVM does not inline a function that calls itself, so that no other table pays for their room;
+// again is 0, since no slice has usize::MAX bytes, but LLVM does not know it.
+fn put_long(t: Table, revision: u8, c: &[u8], out: &mut [u8], again: usize)
     requires { ⌜ length (now c) ≤ limit ⌝ }
     ensures { λ _. ⌜ now (out .exit) ≡ over (now (out .entry)) 28 (callsAt (meant t) revision (now (c .entry))) ⌝ }
 {
+    if 0 < again {
+        put_long(t, revision, c, out, again - 1);
+        return;
+    }
     let shift = marks::spread(c.len(), marks::MOST);
     let mut most = [0u64; marks::MOST];
     put_records(t, revision, c, &mut most, shift, out);
-    if 0 < again {
-        put_long(t, revision, c, out, again - 1);
-    }
 }
 
 // The same with marks of its own: few where a PPTT is too short for as many processors, the most where it is long; and one, which nothing asks for, where there are no references.
@@ -624,7 +626,7 @@ fn put_calls(t: Table, revision: u8, c: &[u8], out: &mut [u8])
             put_records(t, revision, c, &mut many, shift, out);
             return;
         }
-        put_long(t, revision, c, out, revision / 255);
+        put_long(t, revision, c, out, out.len() / usize::MAX);
         return;
     }
     let mut one = [0u64; 1];

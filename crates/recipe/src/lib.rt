@@ -71,7 +71,7 @@ pub enum Kind {
     WindowTarget,
     Xor,
     Map,
-    // with counts or indices of two bytes: a variant each, since one with a width in it costs each record 50 instructions
+    // with counts or indices of two bytes
     WideMatrix,
     WideInitiator,
     WideTarget,
@@ -777,15 +777,14 @@ fn walk(recipe: &[u8], table: Table, types: &mut [u64]) -> Checked
 }
 
 // The same of a long recipe, of a PPTT, with words for as many nodes as a table can have. LLVM does not inline a function that calls itself,
-// so that no other recipe pays for this room: the answer is asked for again where a byte of the head that the compiler does not know is 255.
-fn walk_long(recipe: &[u8], table: Table, again: u8) -> Checked
+// so that no other recipe pays for this room; again is 0, since no slice has usize::MAX bytes, but LLVM does not know it.
+fn walk_long(recipe: &[u8], table: Table, again: usize) -> Checked
     ensures { λ r. ⌜ shown r ≡ outlined (run (headOf (meant table) (part (now (recipe .entry)) 2 26)) 0 byte [] (cut (meant table) 0 28 (drop 28 (now (recipe .entry))))) ⌝ }
 {
-    let answer = walk(recipe, table, &mut [0u64; WORDS]);
     if 0 < again {
         return walk_long(recipe, table, again - 1);
     }
-    answer
+    walk(recipe, table, &mut [0u64; WORDS])
 }
 
 // Judges a whole recipe.
@@ -807,5 +806,5 @@ pub fn check(recipe: &[u8]) -> Checked
     if recipe.len() < FEW_BYTES {
         return walk(recipe, table, &mut [0u64; FEW_WORDS]);
     }
-    walk_long(recipe, table, field::get_u8(recipe, CODE_AT + 1) / 255)
+    walk_long(recipe, table, recipe.len() / usize::MAX)
 }

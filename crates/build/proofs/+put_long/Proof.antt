@@ -1,4 +1,4 @@
--- `put_long` meets its contract, with again as the measure: no mark is wrong where there is none, and from the end on the same end is reached.
+-- `put_long` meets its contract, with again as the measure: no mark is wrong where there is none.
 use mathlib.Core.List.{[]}
 use Prim.Native.Nat.{ℕ, _<_}
 use borrow.Author.Needs.{needs}
@@ -25,42 +25,28 @@ put-long-below t = and 2 put-long-kinds.ps (falls 2 put-long-kinds.ps _<_ μ-put
 
 pub +put-long-spec : {M : Type 1} → statement M
 +put-long-spec = close μ-put-long λ t. put-long-lts.spec (
+  put-long-below t,
+  put-long.Post,
   spread-reads.Asked,
   spread-reads.Learnt,
   put-records-reads.Asked,
   put-records-reads.Learnt,
-  put-long-below t,
-  put-long.Post,
 )
     (put-long-at t)
     put-long.Post
     (λ c. search needs)
     (λ c κs. search needs)
+    (λ c. search needs)
+    (λ c. search needs)
+    (λ c. search needs)
+    (λ c κs. search needs)
     (λ c κs.
-    let b = c .before .before .before .before .before in
+    let b = c .before .before .before .before .before .before in
     let a = b .args in
     let y = b .pre .1 in
     record { start = y .start; meant = y .meant; holds = unmarked (y .start) (a .recipe .now) (meant (a .table)) (y .meant) (a .first) (a .out .now) [] (y .holds) 65536 })
     (λ c. search needs)
-    (λ c κs.
-    let put = c .before .before .before .before .before .put-records in
-    let b = c .before .before .before .before .before .before .before .before .before .before .before in
-    let a = b .args in
-    let y = b .pre .1 in
-    let (ms, h) = put .ensures .1 (y .start) (y .meant) (unmarked (y .start) (a .recipe .now) (meant (a .table)) (y .meant) (a .first) (a .out .now) [] (y .holds) 65536) in
-    (search needs, record { start = y .start; meant = y .meant; holds = unmarked (y .start) (a .recipe .now) (meant (a .table)) (y .meant) _ _ ms h 0 }))
-    (λ c. search needs)
     (λ c.
-    let more = c .before .before .put-long in
-    let put = c .before .before .before .before .before .before .before .before .put-records in
-    let a = c .before .before .before .before .before .before .before .before .before .before .before .before .before .before .args in (
-      more .ensures .0,
-      λ xs m h.
-          let (ms, k) = put .ensures .1 xs m (unmarked xs (a .recipe .now) (meant (a .table)) m (a .first) (a .out .now) [] h 65536) in
-          more .ensures .1 xs m (unmarked xs (a .recipe .now) (meant (a .table)) m _ _ ms k 0),
-    ))
-    (λ c. search needs)
-    (λ c.
-    let put = c .before .before .before .before .put-records in
+    let put = c .before .before .before .put-records in
     let a = c .before .before .before .before .before .before .before .before .before .before .args in
     (put .ensures .0, λ xs m h. put .ensures .1 xs m (unmarked xs (a .recipe .now) (meant (a .table)) m (a .first) (a .out .now) [] h 65536)))

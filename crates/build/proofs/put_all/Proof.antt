@@ -41,8 +41,6 @@ put-all-spec =
     put-records-requires
     (λ c. search needs)
     returns
-    (λ c. search needs)
-    (λ c κs. search needs)
     (λ c κs. search needs)
     (λ c. search needs)
     (λ c. c .before .before .put-long .ensures)

@@ -1,4 +1,4 @@
--- `scan_long` meets its contract, with how often it is asked again as the measure: where no mark is kept, each is right.
+-- `scan_long` meets its contract, with again as the measure: where no mark is kept, each is right.
 use Prim.Native.Nat.{ℕ, _<_}
 use borrow.Author.Needs.{needs}
 use borrow.Fn.Kinds.{In}
@@ -25,32 +25,32 @@ scan-long-below t =
     and 1 scan-long-kinds.ps (falls 1 scan-long-kinds.ps _<_ μ-scan-long t) scan-long.Pre
 
 judge-all-requires : (t : ℕ) → scan-long-lts.Need-judge-all-requires (
+  scan-long-below t,
+  scan-long.Post,
   spread-reads.Asked,
   spread-reads.Learnt,
   judge-all-reads.Asked,
   judge-all-reads.Learnt,
-  scan-long-below t,
-  scan-long.Post,
 ) (scan-long-at t) scan-long.Post
 judge-all-requires t c κs =
-    let s = c .before .before .before in
+    let s = c .before .before .before .before in
     (s .pre .1, none-kept (Passed (meant (s .args .t)) (s .args .c .now)) 65536)
 
 pub +scan-long-spec : {M : Type 1} → statement M
 +scan-long-spec = close μ-scan-long λ t. scan-long-lts.spec (
+  scan-long-below t,
+  scan-long.Post,
   spread-reads.Asked,
   spread-reads.Learnt,
   judge-all-reads.Asked,
   judge-all-reads.Learnt,
-  scan-long-below t,
-  scan-long.Post,
 )
     (scan-long-at t)
     scan-long.Post
+    (λ c. search needs)
+    (λ c κs. search needs)
+    (λ c. search needs)
     (λ c κs. search needs)
     (λ c. search needs)
     (judge-all-requires t)
-    (λ c. search needs)
-    (λ c κs. search needs)
-    (λ c. search needs)
     (λ c. search needs)

@@ -1,11 +1,8 @@
--- `put_long` meets its contract, with how often it is asked again as the measure: before the first record no mark is kept, and the same calls laid again change nothing.
-use mathlib.Core.Path.{_≡_, refl, _∙_}
-use mathlib.Core.List.{List, [], _∷_}
-use Prim.Native.Nat.{ℕ, zero, suc, _<_}
+-- `put_long` meets its contract, with again as the measure: before the first record no mark is kept.
+use Prim.Native.Nat.{ℕ, _<_}
 use borrow.Author.Needs.{needs}
 use borrow.Fn.Kinds.{In}
 use borrow.Fn.PlainCycle.{Measures, is, falls, and}
-use Rattle.format.specs.Bytes.{over}
 use Rattle.header.specs.Header.{meant}
 use Rattle.marks.proofs.Laws.{none-kept}
 use Rattle.frames.specs.Frames.{Passed}
@@ -16,13 +13,6 @@ use Rattle.marks.proofs.spread.Reads as spread-reads
 use Rattle.readout.proofs.put_records.Reads as put-records-reads
 use Rattle.readout.proofs.+put_long.{statement}
 use Rattle.readout.proofs.+put_long.Tie.{close}
-
-over-twice : (bs : List ℕ) (p : ℕ) (cs : List ℕ) → over (over bs p cs) p cs ≡ over bs p cs
-unfolding over
-over-twice [] p cs = refl
-over-twice (b ∷ bs) (suc p) cs = rw (over-twice bs p cs)
-over-twice (b ∷ bs) zero [] = refl
-over-twice (b ∷ bs) zero (c ∷ cs) = rw (over-twice bs zero cs)
 
 abbrev μ-put-long : Measures 2 put-long-kinds.ps ℕ
 μ-put-long κs a = a .1 .1 .1 .1 .0
@@ -35,47 +25,34 @@ put-long-below t =
     and 2 put-long-kinds.ps (falls 2 put-long-kinds.ps _<_ μ-put-long t) put-long.Pre
 
 put-records-requires : (t : ℕ) → put-long-lts.Need-put-records-requires (
+  put-long-below t,
+  put-long.Post,
   spread-reads.Asked,
   spread-reads.Learnt,
   put-records-reads.Asked,
   put-records-reads.Learnt,
-  put-long-below t,
-  put-long.Post,
 ) (put-long-at t) put-long.Post
 put-records-requires t c κs =
-    let s = c .before .before .before .before .before in
+    let s = c .before .before .before .before .before .before in
     (none-kept (Passed (meant (s .args .t)) (s .args .c .now)) 65536, s .pre .1)
-
-returns : (t : ℕ) → put-long-lts.Need-returns (
-  spread-reads.Asked,
-  spread-reads.Learnt,
-  put-records-reads.Asked,
-  put-records-reads.Learnt,
-  put-long-below t,
-  put-long.Post,
-) (put-long-at t) put-long.Post
-returns t c =
-    let l = c .before .before in
-    let r = l .before .before .before .before .before .before in
-    l .put-long .ensures ∙ rw (r .put-records .ensures, over-twice)
 
 pub +put-long-spec : {M : Type 1} → statement M
 +put-long-spec = close μ-put-long λ t. put-long-lts.spec (
+  put-long-below t,
+  put-long.Post,
   spread-reads.Asked,
   spread-reads.Learnt,
   put-records-reads.Asked,
   put-records-reads.Learnt,
-  put-long-below t,
-  put-long.Post,
 )
     (put-long-at t)
     put-long.Post
+    (λ c. search needs)
+    (λ c κs. search needs)
+    (λ c. search needs)
+    (λ c. search needs)
     (λ c κs. search needs)
     (λ c. search needs)
     (put-records-requires t)
-    (λ c. search needs)
-    (λ c κs. search needs)
-    (λ c. search needs)
-    (returns t)
     (λ c. search needs)
     (λ c. search needs)

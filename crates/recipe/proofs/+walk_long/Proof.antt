@@ -1,4 +1,4 @@
--- `walk_long` meets its contract, with again as the measure: the walk gives the answer, and so does every further one.
+-- `walk_long` meets its contract, with again as the measure: the answer is that of the call of itself, or of the walk with room for every node.
 use Prim.Native.Nat.{ℕ, _<_}
 use mathlib.Core.Logic.{inl}
 use native.Mathlib.Omega.{arith}
@@ -24,16 +24,16 @@ walk-long-below t = and 1 walk-long-kinds.ps (falls 1 walk-long-kinds.ps _<_ μ-
 
 pub +walk-long-spec : {M : Type 1} → statement M
 +walk-long-spec = close μ-walk-long λ t. walk-long-lts.spec (
-  walk-reads.Asked,
-  walk-reads.Learnt,
   walk-long-below t,
   walk-long.Post,
+  walk-reads.Asked,
+  walk-reads.Learnt,
 )
     (walk-long-at t)
     walk-long.Post
     (λ c. search needs)
+    (λ c κs. search needs)
+    (λ c. search needs)
+    (λ c. search needs)
     (λ c κs e. (inl (omega arith), typed-none 52429))
     (λ c. search needs)
-    (λ c κs. search needs)
-    (λ c. c .walk-long .ensures)
-    (λ c. c .before .before .walk .ensures)

@@ -73,7 +73,7 @@ returns-5 c =
 
 returns-6 : tie.Need-returns-6
 returns-6 c =
-    let k = c .before .before .before .before .before .before in
+    let k = c .before .before .before .before .before in
     let o = k .before .before in
     let g = o .before in
     let b = g .before in
@@ -100,7 +100,5 @@ check-spec =
     (λ c. search needs)
     (λ c κs e. (inr (c .before .if3 .taken), typed-none 820))
     returns-5
-    (λ c. search needs)
-    (λ c κs. search needs)
     (λ c κs. search needs)
     returns-6)
