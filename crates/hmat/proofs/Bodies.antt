@@ -4,15 +4,15 @@ use Prim.Native.Nat.{ℕ, _+_, _≤_, _<_}
 use mathlib.Core.List.{List, [], _∷_}
 use native.Mathlib.Omega.{arith}
 use native.Mathlib.Nat.{mod-eq-of-lt}
-use lib.ListN.{take, drop}
+use lib.ListN.{take}
 use lib.Dec.{eqb, ltb}
-use Rattle.format.specs.Bytes.{both, at, le, value, join, part}
+use Rattle.format.specs.Bytes.{at, le, value, join, part}
 use Rattle.format.specs.Layout.{asIs, width, fieldsWith}
 use Rattle.format.specs.Form.{Width, byte, pair, octets}
 use Rattle.format.specs.Kind.{Matrix, Initiator, Cell, kindNumber, body}
 use Rattle.format.specs.Normal.{call}
 use Rattle.format.specs.Field.{badIn}
-use Rattle.laws.proofs.Bytes.{part-window}
+use Rattle.laws.proofs.Bytes.{part-take}
 use Rattle.laws.proofs.Joins.{lay-join}
 use Rattle.laws.proofs.Fields.{all-bad, fields-now, call-join}
 use Rattle.hmat.specs.declared.SystemLocality.{SystemLocality}
@@ -71,9 +71,6 @@ cell-inside w bs i t b c e f =
     let second : c .«target_idx» ≡ value (part bs (octets w) (octets w)) = ap (λ (vs : List ℕ). at vs 1) g in
     rw (f, ← all-bad 1 (body (Cell w)) (ltb (c .«initiator_idx») i ∷ ltb (c .«target_idx») t ∷ []) (omega arith), first, second)
 
--- of the body behind the kind byte at p, in a window of n bytes
-pub window-inside : (w : Width) (xs : List ℕ) (p n i t : ℕ) → octets w + octets w ≤ n
-    → inCounts w (take n (drop (p + 1) xs)) i t ≡ both (ltb (value (part xs (p + 1) (octets w))) i) (ltb (value (part xs (p + 1 + octets w) (octets w))) t)
-window-inside w xs p n i t h =
-    let k : p + 1 + 0 ≡ p + 1 = omega arith in
-    rw (part-window xs (p + 1) n 0 (octets w) (omega arith), part-window xs (p + 1) n (octets w) (octets w) h, k)
+-- a window of n bytes holds them
+pub window-inside : (w : Width) (bs : List ℕ) (n i t : ℕ) → octets w + octets w ≤ n → inCounts w (take n bs) i t ≡ inCounts w bs i t
+window-inside w bs n i t h = rw (part-take bs n 0 (octets w) (omega arith), part-take bs n (octets w) (octets w) h)

@@ -3,7 +3,7 @@ use Prim.Native.Nat.{ℕ, suc, _+_, _*_, _<_}
 use mathlib.Core.List.{List, [], _∷_}
 use mathlib.Core.Bool.{Bool}
 use lib.Dec.{eqb, leb, ltb}
-use lib.ListN.{length}
+use lib.ListN.{length, drop}
 use Rattle.format.specs.Bytes.{both, all, at, value, part}
 use Rattle.format.specs.Layout.{width, lay}
 use Rattle.format.specs.Form.{Width, octets}
@@ -53,7 +53,7 @@ inCounts w bs i t = both (ltb (value (part bs 0 (octets w))) i) (ltb (value (par
 -- at a place of a recipe stands the whole record of a cell of an I by T matrix, its indices of width w
 abbrev pub goodCell : Width → List ℕ → ℕ → ℕ → ℕ → Bool
 goodCell w r p i t =
-    all (eqb (at r p) (kindNumber (format.Cell w)) ∷ leb (suc p + width (body (format.Cell w))) (length r) ∷ ltb (value (part r (p + 1) (octets w))) i ∷ ltb (value (part r (p + 1 + octets w) (octets w))) t ∷ [])
+    all (eqb (at r p) (kindNumber (format.Cell w)) ∷ leb (suc p + width (body (format.Cell w))) (length r) ∷ inCounts w (drop (p + 1) r) i t ∷ [])
 
 -- the one field of a handle
 abbrev pub handleFields : SmbiosHandle → List ℕ

@@ -8,7 +8,7 @@ use lib.ListN.{length, drop, replicate}
 use Rattle.format.specs.Bytes.{pick, Answer, refused, given, andThen, unless, at, value, part}
 use Rattle.format.specs.Layout.{to, fields, refsGood}
 use Rattle.format.specs.Table.{Table, front}
-use Rattle.format.specs.Form.{Width, narrowest, layout}
+use Rattle.format.specs.Form.{Width, processor, size, narrowest, layout}
 use Rattle.format.specs.Row.{Row, processors, matrices, home, formIn, known, rowOf}
 use Rattle.format.specs.Read.{signed, own, typeIn, framed, recordFault, Seen, seenAs, partOf}
 use Rattle.frames.specs.Frames.{refers, recordIn}
@@ -21,7 +21,7 @@ RowOf t o = (r : Row) → o ≡ some r → home r ≡ t
 
 -- the most bytes that the row of processors allows
 abbrev pub longestProcessor : ℕ
-longestProcessor = 252
+longestProcessor = size (processor 58)
 
 -- the bytes have the length and the counts that their row, where there is one, asks for, as far as the node of a record says them
 pub record Fits (row : Option Row) (bs : List ℕ) : Type 0 where

@@ -1,11 +1,13 @@
 -- Bounds that keep every sum of lengths and places inside a usize; what a table and a matrix may have settles them.
 use Prim.Native.Nat.{ℕ, _+_, _*_, _^_}
+use Rattle.format.specs.Layout.{width}
 use Rattle.format.specs.Table.{limit}
-use Rattle.format.specs.Form.{most}
+use Rattle.format.specs.Form.{pair, most}
+use Rattle.format.specs.Kind.{Cell, body}
 
--- a setting of a matrix is at most so many bytes: kind, two indices of two bytes and a number of two, or one index and a number of four
+-- a setting of a matrix is at most so many bytes, kind and body: a wide cell, or a wide value, which is as long
 abbrev pub settingMost : ℕ
-settingMost = 7
+settingMost = 1 + width (body (Cell pair))
 
 -- all settings of a matrix
 abbrev pub settingsMost : ℕ

@@ -10,7 +10,7 @@ use lib.ListN.{length, drop, set, drop-of-length-le, length-append, length-drop,
 use lib.Dec.{eqb, leb, ltb}
 use borrow.Author.Tests.{le-ltb, lt-ltb, eq-eqb, ne-eqb, eqb-true, eqb-false, leb-true}
 use Rattle.format.specs.Bytes.{pick, at, Answer, refused, given, unless, value, part}
-use Rattle.format.specs.Layout.{asIs, width, fieldsWith, fields, refsGood}
+use Rattle.format.specs.Layout.{width, fieldsWith, fields, refsGood}
 use Rattle.format.specs.Table.{Table, pptt, srat, hmat, cedt, front, limit, Head, headOf}
 use Rattle.format.specs.Form.{Form, processor, cache, memory, acpi, pci, rintc, oldRintc, domain, matrix, side, bridge, window, xor, typeOf, size, Width, byte, pair, octets}
 use Rattle.format.specs.Node.{Node, sizes}
@@ -20,7 +20,6 @@ use Rattle.laws.proofs.Bytes.{value-byte}
 use Rattle.laws.proofs.Finds.{never, unless-given}
 use Rattle.laws.proofs.Lays.{both-true}
 use Rattle.laws.proofs.Fields.{fault-within}
-use Rattle.laws.proofs.Offsets.{fields-at}
 use Rattle.laws.proofs.Grows.{View, seesProcessor, seesMatrix, seesSide, seesWindow, seesXor, seesOther, view, needless, passed}
 use Rattle.laws.proofs.Builds.{kind-home, front-short}
 use Rattle.laws.proofs.Calls.{cut-at}
@@ -29,7 +28,8 @@ use Rattle.header.specs.declared.Table.the-variants.{Hmat}
 use Rattle.header.specs.Header.{meant, tableNamed}
 use Rattle.hmat.specs.declared.Width as code
 use Rattle.hmat.specs.Widths.{meantWidth}
-use Rattle.hmat.specs.Settings.{goodCell}
+use Rattle.hmat.specs.Settings.{inCounts, goodCell}
+use Rattle.hmat.proofs.Bodies.{cell-fields}
 use Rattle.recipe.specs.declared.Newest.the-variants as is
 use Rattle.recipe.specs.declared.Refusal.{Refusal}
 use Rattle.recipe.specs.declared.State.{State}
@@ -89,6 +89,7 @@ fewer (n ∷ ns) h =
 
 -- there is a clear bit for the next node of a PPTT: its record has room in the recipe yet, and its node in the table
 next-clear : (r ws : List ℕ) (ns : List Node) → sizes ns ≤ limit → leastRecord * length ns < length r → Roomy ws r → Typed ws (typesOf ns) → Clear ws (length ns)
+unfolding width body
 next-clear r ws ns l m o w =
     rw (length-types ns) at (clear-next ws (typesOf ns) w (rw (length-types ns) (⊎-elim (λ x. omega (arith, fewer ns (w .two))) (λ x. omega arith) o)))
 
@@ -350,20 +351,14 @@ noted-cell : (w : Width) (i : ℕ) (ws : List ℕ) → noted (Cell w) i ws ≡ w
 noted-cell byte i ws = refl
 noted-cell pair i ws = refl
 
--- the indices of a cell's record, where its body begins
-cell-indices : (w : Width) (r : List ℕ) (p : ℕ) → (at (fields (body (Cell w)) (drop p r)) 0 ≡ value (part r p (octets w))) × (at (fields (body (Cell w)) (drop p r)) 1 ≡ value (part r (p + octets w) (octets w)))
-unfolding body
-cell-indices w r p = rw (fields-at asIs (body (Cell w)) r p) (refl, refl)
-
 -- a good cell leaves the state as it is
 module _ (r : List ℕ) (h : Head) (q p : ℕ) (s : State) (ws : List ℕ) (w : Stands r h q p s ws) (x : code.Width) (i t : ℕ) (own : s .table ≡ Hmat) (behind : s .newest ≡ is.Matrix x i t)
     (good : goodCell (meantWidth x) r p i t ≡ true) where
-  tests : (at r p ≡ kindNumber (Cell (meantWidth x))) × (ltb (value (part r (p + 1) (octets (meantWidth x)))) i ≡ true) × (ltb (value (part r (p + 1 + octets (meantWidth x)) (octets (meantWidth x)))) t ≡ true)
+  tests : (at r p ≡ kindNumber (Cell (meantWidth x))) × (inCounts (meantWidth x) (drop (p + 1) r) i t ≡ true)
   tests =
       let v = meantWidth x in
       let (a, y) = both-true (eqb (at r p) (kindNumber (Cell v))) _ good in
-      let (c, d) = both-true (ltb (value (part r (p + 1) (octets v))) i) _ (both-true (leb (suc p + width (body (Cell v))) (length r)) _ y .1) in
-      (eqb-true (at r p) (kindNumber (Cell v)) a, c, d)
+      (eqb-true (at r p) (kindNumber (Cell v)) a, both-true (leb (suc p + width (body (Cell v))) (length r)) _ y .1)
 
   named : kindOf (h .table) (at r p) ≡ some (Cell (meantWidth x))
   named = let m : meant (s .table) ≡ h .table = rw (w .is) (meant-named (h .table)) in rw (← m, own, tests .0) (cell-kind (meantWidth x))
@@ -372,9 +367,10 @@ module _ (r : List ℕ) (h : Head) (q p : ℕ) (s : State) (ws : List ℕ) (w : 
   unfolding body step refsGood
   turns b u ns m e k z y =
       let v = meantWidth x in
-      let (c, d) = cell-indices v r (p + 1) in
+      let bs = drop (p + 1) r in
+      let (c, d) = both-true (ltb (value (part bs 0 (octets v))) i) _ (tests .1) in
       sym (set-turn b u s m (drop (p + 1) r) v i t (Cell v) refl _ _ _ (sound r h q p s ws w) (λ ms. refl) (λ ok vs. refl) ns x e behind
-      ∙ rw (← kept-width b u ns s x i t e behind, eq-eqb (octets v) (octets v) refl, c, d, tests .1, tests .2))
+      ∙ rw (← kept-width b u ns s x i t e behind, eq-eqb (octets v) (octets v) refl, cell-fields v bs, c, d))
 
   pub cell-passed : Stands r h q (p + 1 + width (body (Cell (meantWidth x)))) s ws
   cell-passed =

@@ -8,9 +8,9 @@ use mathlib.Core.Option.{Option, none, some}
 use lib.ListN.{length, take, drop, set}
 use lib.Dec.{eqb, ltb}
 use Rattle.format.specs.Bytes.{pick, both, at, Answer, refused, given, unless}
-use Rattle.format.specs.Layout.{fields}
+use Rattle.format.specs.Layout.{width, fields}
 use Rattle.format.specs.Table.{Table, front, limit, pptt, Head}
-use Rattle.format.specs.Form.{Width, byte, typeOf}
+use Rattle.format.specs.Form.{Width, processor, byte, typeOf, size}
 use Rattle.format.specs.Node.{Node, sizes}
 use Rattle.format.specs.Kind.{Kind, Processor, Resource, Cache, Memory, Acpi, Pci, Rintc, Domain, Matrix, Initiator, Target, Cell, Side, Handle, Bridge, Window, WindowTarget, Xor, Map, kindNumber, kindOf, isKind, body, partIn, widthBehind}
 use Rattle.format.specs.Recipe.{Newest, aList, aMatrix, other, newest, step, added, fault, faultAt, cut, Meaning, run}
@@ -113,10 +113,10 @@ bitAt ws i = at ws (i / 64) / 2 ^ (i % 64) % 2
 
 -- the shortest node of a PPTT, a processor without resources, has so many bytes in a table, and so many in a recipe
 abbrev pub leastNode : ℕ
-leastNode = 20
+leastNode = size (processor 0)
 
 abbrev pub leastRecord : ℕ
-leastRecord = 13
+leastRecord = 1 + width (body Processor)
 
 -- the words have a bit for every node of a PPTT within the limit, or for every node that the recipe has room for
 abbrev pub Roomy : List ℕ → List ℕ → Type 0

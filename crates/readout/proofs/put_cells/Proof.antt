@@ -6,11 +6,11 @@ use native.Mathlib.Nat.{zero-div, zero-mod, div-le-self, mod-le}
 use native.Mathlib.Omega.{arith}
 use borrow.Author.Needs.{needs}
 use lib.ListN.{replicate}
-use Rattle.format.specs.Layout.{asIs, fld}
+use Rattle.format.specs.Layout.{asIs, fld, width}
 use Rattle.format.specs.Form.{Width}
 use Rattle.format.specs.Normal.{call, eachSet}
 use Rattle.laws.specs.Offsets.{fieldsAt}
-use Rattle.format.specs.Kind.{Cell}
+use Rattle.format.specs.Kind.{Cell, body}
 use Rattle.hmat.specs.Widths.{meantWidth}
 use Rattle.readout.specs.Bounds.{settingMost}
 use Rattle.readout.proofs.Lists.{Coming, all-coming, laid-length, come-set, set-laid}
@@ -50,6 +50,7 @@ next-column-requires c κs =
     omega (arith, mod-le (l .loop .e) t)
 
 loop-again : tie.Need-loop-again Inv-loop μ-loop
+unfolding width body
 loop-again c =
     let r = c .before in
     let v = r .before .before .before in
@@ -71,9 +72,11 @@ laid : tie.Need-same-length Inv-loop μ-loop
 laid c = laid-length (set-laid asIs (fld 2) _ _ _ _ _ 65535 (c .loop-test .left) (c .before .loop .inv .3))
 
 returns : tie.Need-returns Inv-loop μ-loop
+unfolding width body
 returns c = (set-laid asIs (fld 2) _ _ _ _ _ 65535 (c .loop-test .left) (c .before .loop .inv .3), omega arith)
 
 pub put-cells-spec : {M : Type 1} → statement M
+unfolding width body
 put-cells-spec =
     tie.close
     (tie.spec

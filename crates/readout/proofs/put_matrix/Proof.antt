@@ -3,7 +3,9 @@ use mathlib.Core.Path.{refl}
 use Prim.Native.Nat.{_≤_}
 use native.Mathlib.Omega.{arith}
 use borrow.Author.Needs.{needs}
+use Rattle.format.specs.Layout.{width}
 use Rattle.format.specs.Form.{byte, narrowest}
+use Rattle.format.specs.Kind.{body}
 use Rattle.hmat.specs.Hmat.{matrixCall}
 use Rattle.readout.proofs.Lists.{put-laid, laid-on}
 use Rattle.readout.proofs.Records.{matrix-counts, matrix-calls, matrix-short}
@@ -28,6 +30,7 @@ put-settings-requires c κs =
     (omega (arith, i, s .pre .0), omega (arith, t, s .pre .1), omega arith)
 
 returns : tie.Need-returns
+unfolding width body
 returns c =
     let x = c .before .before in
     let y = x .before .before .before .before in

@@ -3,6 +3,8 @@ use mathlib.Core.Path.{_≡_}
 use Prim.Native.Nat.{_+_, _*_}
 use native.Mathlib.Omega.{arith}
 use borrow.Author.Needs.{needs}
+use Rattle.format.specs.Layout.{width}
+use Rattle.format.specs.Kind.{body}
 use Rattle.readout.proofs.Lists.{laid-on}
 use Rattle.readout.proofs.Records.{settings-at, some-targets, few-cells}
 use Rattle.readout.proofs.put_settings.Statement.{statement}
@@ -25,6 +27,7 @@ mul-put-cells c =
     omega arith
 
 put-cells-requires : tie.Need-put-cells-requires
+unfolding width body
 put-cells-requires c κs =
     let w = c .before .before .before in
     let s = call w in
@@ -32,6 +35,7 @@ put-cells-requires c κs =
     (some-targets (s .args .i) (s .args .t), omega (arith, places w .target-place2 .ensures), omega arith, omega arith)
 
 returns : tie.Need-returns
+unfolding width body
 returns c =
     let x = c .before .before in
     let w = x .before .before .before .before in
@@ -49,6 +53,7 @@ returns c =
     (λ g. rw (settings-at g _ _ _ _ _ _ _ (k .before .initiator-kind .ensures) (k .target-kind .ensures)) (laid-on A (laid-on B C)), omega arith)
 
 pub put-settings-spec : {M : Type 1} → statement M
+unfolding width body
 put-settings-spec =
     tie.close
     (tie.spec

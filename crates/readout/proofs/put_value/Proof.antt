@@ -3,6 +3,8 @@ use Prim.Native.Nat.{_≤_}
 use native.Mathlib.Omega.{arith}
 use borrow.Author.Needs.{needs}
 use borrow.Author.Tests.{eq-eqb, ne-eqb}
+use Rattle.format.specs.Layout.{width}
+use Rattle.format.specs.Kind.{body}
 use Rattle.hmat.specs.Widths.{meantWidth}
 use Rattle.readout.specs.Bounds.{settingMost}
 use Rattle.readout.proofs.Lists.{none-laid, put-laid, low-setting, setting-short}
@@ -13,6 +15,7 @@ returns : tie.Need-returns
 returns c = (rw (eq-eqb _ _ (c .if1 .taken)) (none-laid _ _), omega arith)
 
 add-result : tie.Need-add-result
+unfolding width body
 add-result c =
     let v = c .before .before in
     let a = v .before .before .before .before .args in

@@ -5,7 +5,8 @@ use Prim.Native.Nat.{ℕ, _-_, _+_, _*_, _≤_}
 use native.Mathlib.Omega.{arith}
 use borrow.Author.Needs.{needs}
 use lib.ListN.{replicate}
-use Rattle.format.specs.Layout.{asIs, fld}
+use Rattle.format.specs.Layout.{asIs, fld, width}
+use Rattle.format.specs.Kind.{body}
 use Rattle.format.specs.Normal.{eachSet}
 use Rattle.laws.specs.Offsets.{fieldsAt}
 use Rattle.hmat.specs.Widths.{meantWidth}
@@ -30,6 +31,7 @@ loop-holds c =
     (omega arith, omega arith, omega arith, rw e (all-coming _ _ _))
 
 loop-again : tie.Need-loop-again Inv-loop μ-loop
+unfolding width body
 loop-again c =
     let v = c .before .before in
     let g = v .before .before in
@@ -44,9 +46,11 @@ laid : tie.Need-same-length Inv-loop μ-loop
 laid c = laid-length (set-laid asIs (fld 4) _ _ _ _ _ 0 (c .loop-test .left) (c .before .loop .inv .3))
 
 returns : tie.Need-returns Inv-loop μ-loop
+unfolding width body
 returns c = (set-laid asIs (fld 4) _ _ _ _ _ 0 (c .loop-test .left) (c .before .loop .inv .3), omega arith)
 
 pub put-values-spec : {M : Type 1} → statement M
+unfolding width body
 put-values-spec =
     tie.close
     (tie.spec

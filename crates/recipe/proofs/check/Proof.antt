@@ -9,7 +9,9 @@ use borrow.Author.Needs.{needs}
 use denote.Enum.Declared.{tagOf}
 use types.Run.{OneOf, miss}
 use Rattle.format.specs.Bytes.{value, part}
+use Rattle.format.specs.Layout.{width}
 use Rattle.format.specs.Table.{pptt, code}
+use Rattle.format.specs.Kind.{body}
 use Rattle.format.specs.Recipe.{tableOf}
 use Rattle.header.specs.declared.Table.{Table}
 use Rattle.header.specs.declared.Table.the-variants.{Pptt, Srat, Hmat, Cedt}
@@ -60,6 +62,11 @@ returns-4 c =
     let z = rw (g .get-u82 .ensures) at (sym (o .of-code .ensures) ∙ ap codedAs (k .table .given .1)) in
     w .walk .ensures ∙ sym (ap outlined (headed-by _ (sym (a .before .get-u8 .ensures) ∙ a .if1 .left) (b .if2 .left) _ z))
 
+-- a recipe of fewer bytes has fewer nodes than bits
+walk-requires-2 : tie.Need-walk-requires-2
+unfolding width body
+walk-requires-2 c κs e = (inr (c .before .if3 .taken), typed-none 820)
+
 returns-5 : tie.Need-returns-5
 returns-5 c =
     let w = c .before in
@@ -98,7 +105,7 @@ check-spec =
     (λ c κs e. let m = c .before in other (m .before .before .table .given .0 .0) (m .match2 .keys2) e)
     returns-4
     (λ c. search needs)
-    (λ c κs e. (inr (c .before .if3 .taken), typed-none 820))
+    walk-requires-2
     returns-5
     (λ c κs. search needs)
     returns-6)

@@ -2,7 +2,7 @@
 use mathlib.Core.Path.{_≡_}
 use Prim.Native.Nat.{suc, _+_, _-_}
 use native.Mathlib.Omega.{arith}
-use lib.ListN.{length}
+use lib.ListN.{length, drop}
 use borrow.Author.Needs.{needs}
 use borrow.Author.Tests.{le-leb, lt-leb, eq-eqb, ne-eqb}
 use Rattle.format.specs.Layout.{width}
@@ -53,7 +53,7 @@ returns-4 c =
     let f = k .before .before in
     let a = f .before .before .before .before .args in
     rw (← k .kind .ensures, eq-eqb _ _ (e .if3 .left), le-leb (suc (a .at) + width (body (Cell (meantWidth (a .width))))) (length (a .recipe .now)) (omega (arith, f .if2 .left, f .before .body-len .ensures)), m .enum-told .given .1, c .is-inside .ensures)
-    (window-inside byte (a .recipe .now) (a .at) (a .at + 1 + 4 - (a .at + 1)) _ _ (omega arith))
+    (window-inside byte (drop (a .at + 1) (a .recipe .now)) (a .at + 1 + 4 - (a .at + 1)) _ _ (omega arith))
 
 returns-5 : tie.Need-returns-5
 returns-5 c =
@@ -63,7 +63,7 @@ returns-5 c =
     let f = k .before .before in
     let a = f .before .before .before .before .args in
     rw (← k .kind .ensures, eq-eqb _ _ (e .if3 .left), le-leb (suc (a .at) + width (body (Cell (meantWidth (a .width))))) (length (a .recipe .now)) (omega (arith, f .if2 .left, f .before .body-len .ensures)), m .enum-told2 .given .1, c .is-inside2 .ensures)
-    (window-inside pair (a .recipe .now) (a .at) (a .at + 1 + 6 - (a .at + 1)) _ _ (omega arith))
+    (window-inside pair (drop (a .at + 1) (a .recipe .now)) (a .at + 1 + 6 - (a .at + 1)) _ _ (omega arith))
 
 pub stands-spec : {M : Type 1} → statement M
 stands-spec =
