@@ -18,11 +18,13 @@ use Rattle.laws.proofs.Offsets.{fields-at}
 use Rattle.laws.proofs.Fields.{body-window}
 use Rattle.hmat.specs.declared.Cell as declared
 use Rattle.hmat.specs.Settings.{cellFields}
-use Rattle.build.specs.declared.State.{State}
-use Rattle.build.specs.Write.{bodyWidth, rowIn, columnIn, valueIn, entryAt, changeOf, wrote}
+use Rattle.writes.specs.declared.State.{State}
+use Rattle.writes.specs.declared.Found.{Found}
+use Rattle.writes.specs.Writes.{changeOf, wrote}
+use Rattle.build.specs.Write.{bodyWidth, rowIn, columnIn, valueIn, entryAt}
 use Rattle.build.specs.Held.{Held, Ready, Goes}
 use Rattle.build.proofs.Sums.{part-over, sum-still}
-use Rattle.build.proofs.Steps.{whole, in-buffer, goes}
+use Rattle.build.proofs.Steps.{whole, in-table, in-buffer, goes}
 
 -- what its body says, behind the kind byte at p
 said : (w : Width) (r : List ℕ) (p : ℕ)
@@ -84,15 +86,21 @@ module _ (w : Width) (xs r : List ℕ) (m : Meaning) (s : State) (out ms : List 
 
   from-is : changeOf (Cell w) s vs .from ≡ place
   unfolding changeOf
-  from-is = rw (says .0, says .1)
+  from-is =
+      let e : changeOf (Cell w) s vs .from ≡ min place (2 ^ 64 - 1) = rw (says .0, says .1) in
+      omega (arith, e, in-table xs r hmat m s out ms h (Cell w) l is-cell, h .ends, h .short)
 
   pub cell-in : place + 2 ≤ length out
   unfolding changeOf
   cell-in = omega (arith, from-is, in-buffer xs r hmat m s out ms h (Cell w) l is-cell)
 
-  wrote-is : wrote (Cell w) s vs out ≡ over out place (le 2 (valueIn w r (s .at)))
+  -- it names no record
+  none : Found
+  none = record { processor = record { 0 = 0 }; cache = record { 0 = 0 } }
+
+  wrote-is : wrote (Cell w) s none (changeOf (Cell w) s vs .from) vs out ≡ over out place (le 2 (valueIn w r (s .at)))
   unfolding wrote
-  wrote-is = rw (says .0, says .1, says .2)
+  wrote-is = rw (from-is, says .2)
 
   pub cell-goes : (out′ : List ℕ) (u : ℕ) → out′ ≡ over out place (le 2 (valueIn w r (s .at)))
       → u ≡ (s .sum .value + checkOf (sum (part out place 2)) + sum (le 2 (valueIn w r (s .at)))) % 256
@@ -105,5 +113,5 @@ module _ (w : Width) (xs r : List ℕ) (m : Meaning) (s : State) (out ms : List 
       let n : part o place 2 ≡ cs = rw (length-le 2 (valueIn w r (s .at))) at (part-over out place cs (rw length-le cell-in)) in
       let z : u ≡ (x + sum (part o place 2) + sum (part o (s .end) 0) + checkOf (sum (le 4 (s .end))) + sum (le 4 (s .end + 0))) % 256 =
       eu ∙ shift (s .sum .value + checkOf (sum (part out place 2))) (sum cs) ∙ rw n (sum-still x (sum cs) o (s .end) 0 refl) in
-      rw (eo, ← wrote-is) (goes xs r hmat m s out ms h (Cell w) l is-cell (record { at = s .at + (1 + bodyWidth w); end = s .end; latest = s .latest; sum = record { value = u } }) x
-      (omega arith) (sym (add-zero (s .end))) refl (rw (says .0, says .1)) (rw (wrote-is, says .0, says .1) z))
+      goes xs r hmat m s out ms h (Cell w) l is-cell none tt out′ (eo ∙ sym wrote-is) (record { at = s .at + (1 + bodyWidth w); end = s .end; latest = s .latest; sum = record { value = u } }) x
+      (omega arith) (sym (add-zero (s .end))) refl (rw from-is) (rw (eo, from-is) z)

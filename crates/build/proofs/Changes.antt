@@ -3,9 +3,10 @@ use mathlib.Core.Path.{_≡_, ap, _∙_}
 use Prim.Native.Nat.{ℕ}
 use mathlib.Core.List.{List}
 use Rattle.format.specs.Kind.{Kind}
-use Rattle.build.specs.declared.State.{State}
-use Rattle.build.specs.declared.Change.{Change}
-use Rattle.build.specs.Write.{changeOf, Changes}
+use Rattle.writes.specs.declared.State.{State}
+use Rattle.writes.specs.declared.Change.{Change}
+use Rattle.writes.specs.Writes.{changeOf}
+use Rattle.build.specs.Write.{Changes}
 
 module _ (k j : Kind) (c : Change) (n : ℕ) (e : k ≡ j) (h : Changes k c) where
   pub len-is : ((s : State) (vs : List ℕ) → changeOf j s vs .len ≡ n) → c .len ≡ n

@@ -5,8 +5,6 @@ pub mod Changes
 pub mod Headers
 pub mod Turns
 pub mod Names
-pub mod Plains
-pub mod Windows
 pub mod Places
 pub mod Whole
 pub mod Steps

@@ -8,9 +8,10 @@ use mathlib.Core.Option.{none, some}
 use native.Mathlib.Numerals.{add-one}
 use native.Mathlib.Omega.{arith}
 use native.Mathlib.Nat.{zero-add}
-use lib.ListN.{length, drop, getD, replicate, length-append, length-drop, drop-of-length-le}
+use lib.ListN.{length, take, drop, getD, replicate, length-append, length-drop, drop-of-length-le}
+use lib.Seq.{length-take-le}
 use lib.Dec.{eqb}
-use borrow.Author.Tests.{eqb-false}
+use borrow.Author.Tests.{eqb-false, le-ltb}
 use Rattle.format.specs.Bytes.{Bytes, pick, at, le, part, over, sum, given}
 use Rattle.format.specs.Layout.{width, fields}
 use Rattle.format.specs.Table.{Table, pptt, front, limit}
@@ -21,18 +22,23 @@ use Rattle.format.specs.Recipe.{Meaning, means, cut, added, meaning}
 use Rattle.format.specs.Build.{records, header, checkOf, summed, tableFrom, table}
 use Rattle.laws.proofs.Bytes.{bytes-drop, length-part, length-over, sum-append}
 use Rattle.laws.proofs.Lays.{Fit}
+use Rattle.laws.proofs.Fields.{body-window}
 use Rattle.laws.proofs.Heads.{length-records, length-header}
-use Rattle.laws.proofs.Links.{few-nodes}
 use Rattle.laws.proofs.Grows.{passed, kindHome, Grown, grown-good, grows}
 use Rattle.laws.proofs.Builds.{other-table, body-fits, kind-home}
+use Rattle.recipe.specs.declared.Reference.{Reference}
+use Rattle.recipe.specs.declared.Reference.the-variants as names
+use Rattle.recipe.specs.Kinds.{naming, ordinalIn}
 use Rattle.recipe.specs.Machine.{refers}
 use Rattle.marks.specs.declared.Mark.{Mark}
 use Rattle.marks.specs.Marks.{markIn, noted, Every}
 use Rattle.marks.proofs.Laws.{none-kept, noted-keeps}
-use Rattle.build.specs.declared.State.{State}
-use Rattle.build.specs.declared.Change.{Change}
-use Rattle.build.specs.Write.{changeOf, wrote}
-use Rattle.build.specs.Held.{headIn, frontOf, Marked, Leads, Reaches, keptWith, Held, Ready, Small, Builds}
+use Rattle.writes.specs.declared.State.{State}
+use Rattle.writes.specs.declared.Change.{Change}
+use Rattle.writes.specs.declared.Found.{Found}
+use Rattle.writes.specs.Writes.{windowed, fieldsIn, changeOf, wrote}
+use Rattle.build.specs.Write.{placeIn}
+use Rattle.build.specs.Held.{headIn, frontOf, Marked, Leads, Placed, Reaches, keptWith, Held, Ready, Builds}
 use Rattle.header.proofs.Laws.{front-small, front-long}
 use Rattle.build.proofs.Headers.{header-any, finished}
 use Rattle.build.proofs.Sums.{part-laid, sum-front, sum-moves}
@@ -53,6 +59,16 @@ older t [] = omega arith
 older t (n ∷ ns) = omega arith
 
 -- ---- one record
+
+-- where the record stands that a reference names
+foundAt : List ℕ → Reference → Found
+foundAt out x = let p = placeIn out (ordinalIn x) in record { processor = record { 0 = p }; cache = record { 0 = p } }
+
+placed-at : (out : List ℕ) (x : Reference) → Placed out x (foundAt out x)
+unfolding foundAt
+placed-at out (names.Processor h) = refl
+placed-at out (names.Cache h) = refl
+placed-at out names.Nothing = tt
 
 -- bytes change, and bytes come: of the buffers, and of the sums
 module _ {xs fs : List ℕ} {t : Table} {ns more : List Node} {c : Change} {out out′ : List ℕ} (h : Turned xs fs t ns more c out′) (held : out ≡ over xs 0 (fs ++ records t ns))
@@ -129,9 +145,10 @@ module _ (xs r : List ℕ) (t : Table) (m : Meaning) (s : State) (out ms : List 
         let g : Grown (kindHome k) (added k vs (h .nodes)) = grows k vs (h .nodes) fit (rw own (passed t (h .width) (h .nodes) k vs (found .sound))) (found .free) (rw own (h .good)) in
         rw own at g
 
-    turns : Turned xs fs t (h .nodes) (added k vs (h .nodes)) (changeOf k s vs) (wrote k s vs out)
-    turns =
-        let g : Turned xs fs (kindHome k) (h .nodes) (added k vs (h .nodes)) (changeOf k s vs) (wrote k s vs out) = turned k vs (rw own laid) fit (rw own (passed t (h .width) (h .nodes) k vs (found .sound))) (rw own good) in
+    -- d: where the record stands that it names
+    turns : (d : Found) → Placed out (naming k vs) d → Turned xs fs t (h .nodes) (added k vs (h .nodes)) (changeOf k s vs) (wrote k s d (changeOf k s vs .from) vs out)
+    turns d z =
+        let g : Turned xs fs (kindHome k) (h .nodes) (added k vs (h .nodes)) (changeOf k s vs) (wrote k s d (changeOf k s vs .from) vs out) = turned k vs d z (rw own laid) fit (rw own (passed t (h .width) (h .nodes) k vs (found .sound))) (rw own good) in
         rw own at g
 
     more-room : length fs + sizes (added k vs (h .nodes)) ≤ length xs
@@ -139,12 +156,18 @@ module _ (xs r : List ℕ) (t : Table) (m : Meaning) (s : State) (out ms : List 
         let a = run-keeps (headIn t r) (found .since) (widthBehind (partIn k) (h .width)) (added k vs (h .nodes)) (cut t 0 (suc (s .at) + width (body k)) (drop (suc (s .at) + width (body k)) r)) m (found .leads) .1 in
         omega (arith, h .space, laid .long)
 
-    -- the bytes that change stand in the buffer
+    somehow : Turned xs fs t (h .nodes) (added k vs (h .nodes)) (changeOf k s vs) (wrote k s (foundAt out (naming k vs)) (changeOf k s vs .from) vs out)
+    somehow = turns (foundAt out (naming k vs)) (placed-at out (naming k vs))
+
+    -- the bytes that change stand in the table, and so in the buffer
+    pub in-table : changeOf k s vs .from + changeOf k s vs .len ≤ s .end
+    in-table = omega (arith, somehow .from, somehow .len, lengths somehow (h .held) more-room .0, laid .long, h .ends)
+
     pub in-buffer : changeOf k s vs .from + changeOf k s vs .len ≤ length out
-    in-buffer = rw (h .held, length-over) (omega (arith, turns .from, turns .len, lengths turns (h .held) more-room .0, laid .long, held-room))
+    in-buffer = rw (h .held, length-over) (omega (arith, in-table, h .ends, held-room))
 
     pub longer : s .end + changeOf k s vs .more ≡ front t + sizes (added k vs (h .nodes))
-    longer = omega (arith, grown-by turns (h .held) more-room, h .ends)
+    longer = omega (arith, grown-by somehow (h .held) more-room, h .ends)
 
     pub short : s .end + changeOf k s vs .more ≤ limit
     short = omega (arith, longer, passed t (h .width) (h .nodes) k vs (found .sound) .short)
@@ -168,12 +191,13 @@ module _ (xs r : List ℕ) (t : Table) (m : Meaning) (s : State) (out ms : List 
         let w = h .marked i y in
         older-added (λ es. Marked t es (markIn (at ms i))) k vs (h .nodes) (passed t (h .width) (h .nodes) k vs (found .sound) .place) (marked-newer t (h .nodes) (markIn (at ms i)) w) w
 
-    pub goes : (s′ : State) (w : ℕ) → s′ .at ≡ suc (s .at) + width (body k) → s′ .end ≡ s .end + changeOf k s vs .more → s′ .latest ≡ changeOf k s vs .latest
+    pub goes : (d : Found) → Placed out (naming k vs) d → (out′ : List ℕ) → out′ ≡ wrote k s d (changeOf k s vs .from) vs out → (s′ : State) (w : ℕ) → s′ .at ≡ suc (s .at) + width (body k) → s′ .end ≡ s .end + changeOf k s vs .more → s′ .latest ≡ changeOf k s vs .latest
         → w ≡ (s .sum .value + checkOf (sum (part out (changeOf k s vs .from) (changeOf k s vs .len)))) % 256
-        → s′ .sum .value ≡ (w + sum (part (wrote k s vs out) (changeOf k s vs .from) (changeOf k s vs .len)) + sum (part (wrote k s vs out) (s .end) (changeOf k s vs .more)) + checkOf (sum (le 4 (s .end))) + sum (le 4 (s .end + changeOf k s vs .more))) % 256
-        → Held xs r t m s′ (wrote k s vs out) ms
-    goes s′ w ea ee el ew eu =
-        let d = laid .long in
+        → s′ .sum .value ≡ (w + sum (part out′ (changeOf k s vs .from) (changeOf k s vs .len)) + sum (part out′ (s .end) (changeOf k s vs .more)) + checkOf (sum (le 4 (s .end))) + sum (le 4 (s .end + changeOf k s vs .more))) % 256
+        → Held xs r t m s′ out′ ms
+    goes d z out′ eo s′ w ea ee el ew eu =
+        let l = laid .long in
+        let y : Turned xs fs t (h .nodes) (added k vs (h .nodes)) (changeOf k s vs) out′ = rw eo (turns d z) in
         let b : s .end ≡ length fs + sizes (h .nodes) = omega (arith, h .ends) in
         record {
           bytes = h .bytes;
@@ -186,27 +210,30 @@ module _ (xs r : List ℕ) (t : Table) (m : Meaning) (s : State) (out ms : List 
           width = widthBehind (partIn k) (h .width);
           leads = rw ea (found .leads);
           ends = ee ∙ longer;
-          place = rw el (turns .place);
-          counts = rw el (turns .counts);
-          few = rw el (turns .few);
-          held = turns .held;
-          counted = rw el (turns .counted);
+          place = rw el (y .place);
+          counts = rw el (y .counts);
+          few = rw el (y .few);
+          held = y .held;
+          counted = rw el (y .counted);
           marked = still;
-          sums = sum-turned turns (h .held) more-room (s .end) (sum (header (headIn t r) 0 0 0)) (sum (le 4 (s .end))) (sum (le 4 (s .end + changeOf k s vs .more))) (s .sum .value) w (s′ .sum .value) b
+          sums = sum-turned y (h .held) more-room (s .end) (sum (header (headIn t r) 0 0 0)) (sum (le 4 (s .end))) (sum (le 4 (s .end + changeOf k s vs .more))) (s .sum .value) w (s′ .sum .value) b
               (h .sums ∙ ap (λ (n : ℕ). n % 256) (sum-front (headIn t r) (s .end) (records t (h .nodes)))) ew eu
               ∙ ap (λ (n : ℕ). n % 256) (rw ee (sym (sum-front (headIn t r) (s .end + changeOf k s vs .more) (records t (added k vs (h .nodes))))));
         }
 
-    -- the same of what the code says of the body, of the change and of the buffer
-    module _ (bs : List ℕ) (c : Change) (eb : bs ≡ drop (s .at + 1) r) (ec : c ≡ changeOf k s (fields (body k) bs)) where
-      change-is : c ≡ changeOf k s vs
-      change-is = ec ∙ ap (λ (l : List ℕ). changeOf k s (fields (body k) l)) (eb ∙ ap (λ (n : ℕ). drop n r) (add-one (s .at)))
+    -- the same of what the code says of the body, whose n bytes it lends, of the change and of the buffer
+    module _ (n : ℕ) (c : Change) (en : n ≡ width (body k)) (ec : c ≡ changeOf k s (fields (body k) (take n (drop (s .at + 1) r)))) where
+      abbrev bs : List ℕ
+      bs = take n (drop (s .at + 1) r)
 
-      body-is : bs ≡ drop (suc (s .at)) r
-      body-is = eb ∙ ap (λ (n : ℕ). drop n r) (add-one (s .at))
+      fields-are : fields (body k) bs ≡ vs
+      fields-are = body-window k (drop (s .at + 1) r) n (omega arith) ∙ ap (λ (i : ℕ). fields (body k) (drop i r)) (add-one (s .at))
+
+      change-is : c ≡ changeOf k s vs
+      change-is = ec ∙ ap (λ (l : List ℕ). changeOf k s l) fields-are
 
       pub leads-there : (refers k bs ≡ 0 → ⊥) → Every (Leads out) ms
-      leads-there z = leading (λ e. z (ap (refers k) body-is ∙ e))
+      leads-there z = leading (λ e. z (ap (λ (l : List ℕ). ordinalIn (naming k l)) fields-are ∙ e))
 
       pub in-limit : s .end + c .more ≤ limit
       in-limit = rw change-is short
@@ -218,25 +245,29 @@ module _ (xs r : List ℕ) (t : Table) (m : Meaning) (s : State) (out ms : List 
       pub coming : s .end + c .more ≤ length out
       coming = rw (change-is, longer, h .held, length-over) (omega (arith, more-room, laid .long))
 
-      pub long-enough : width (body k) ≤ length bs
-      long-enough = rw (body-is, length-drop) (omega (arith, whole))
+      -- the body is not cut
+      uncut : fieldsIn k bs ≡ vs
+      unfolding windowed
+      uncut =
+          let l : length bs ≡ n = length-take-le n (drop (s .at + 1) r) (rw length-drop (omega (arith, whole))) in
+          rw (le-ltb (length bs) (width (body k)) (omega arith)) (body-window k bs (width (body k)) (omega arith) ∙ fields-are)
 
-      pub stepped : (out′ : List ℕ) (s′ : State) (w : ℕ) → out′ ≡ wrote k s (fields (body k) bs) out → s′ .at ≡ s .at + 1 + width (body k) → s′ .end ≡ s .end + c .more → s′ .latest ≡ c .latest
+      pub stepped : (d : Found) → Placed out (naming k (fields (body k) bs)) d → (out′ : List ℕ) (s′ : State) (w : ℕ)
+          → out′ ≡ wrote k s d (c .from) (fieldsIn k bs) out → s′ .at ≡ s .at + 1 + width (body k) → s′ .end ≡ s .end + c .more → s′ .latest ≡ c .latest
           → w ≡ (s .sum .value + checkOf (sum (part out (c .from) (c .len)))) % 256
           → s′ .sum .value ≡ (w + sum (part out′ (c .from) (c .len)) + sum (part out′ (s .end) (c .more)) + checkOf (sum (le 4 (s .end))) + sum (le 4 (s .end + c .more))) % 256
           → Held xs r t m s′ out′ ms
-      stepped out′ s′ w eo ea ee el ew eu =
-          let o : out′ ≡ wrote k s vs out = eo ∙ ap (λ (l : List ℕ). wrote k s (fields (body k) l) out) (eb ∙ ap (λ (n : ℕ). drop n r) (add-one (s .at))) in
+      stepped d z out′ s′ w eo ea ee el ew eu =
           let f = change-is in
-          rw o (goes s′ w (ea ∙ ap (λ (n : ℕ). n + width (body k)) (add-one (s .at))) (rw f at ee) (rw f at el) (rw f at ew) (rw (o, f) at eu))
+          goes d (rw fields-are at z) out′ (rw (uncut, f) at eo) s′ w (ea ∙ ap (λ (i : ℕ). i + width (body k)) (add-one (s .at))) (rw f at ee) (rw f at el) (rw f at ew) (rw f at eu)
 
--- what a step may rely on
+-- the newest record stands within the limit
 module _ (r : List ℕ) (t : Table) (s : State) (out ms : List ℕ) (y : Ready r t s out ms) where
-  pub small : Small s
-  small =
+  pub low : s .latest .place ≤ limit
+  low =
       let h = y .holds in
       let l : front t + sizes (drop 1 (h .nodes)) ≤ front t + sizes (h .nodes) = older t (h .nodes) in
-      record { end = omega (arith, h .ends, h .short); place = omega (arith, h .place, h .short); few = h .few; nodes = omega (arith, h .counted, few-nodes (h .nodes), h .short) }
+      omega (arith, h .place, h .short)
 
 -- ---- marks
 

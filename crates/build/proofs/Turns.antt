@@ -1,6 +1,6 @@
 -- One record, kind by kind: what the code writes is the table of the nodes with it, and what changes there is what the code says.
 use mathlib.Core.Path.{_≡_, refl, sym, ap, _∙_}
-use Prim.Native.Nat.{ℕ, zero, suc, _+_, _-_, _*_, _≤_, _<_}
+use Prim.Native.Nat.{ℕ, zero, suc, _+_, _-_, _*_, _%_, _≤_, _<_}
 use mathlib.Core.List.{List, [], _∷_, _++_, append-assoc, append-nil}
 use mathlib.Core.Bool.{Bool, true, false}
 use native.Mathlib.Omega.{arith}
@@ -11,7 +11,7 @@ use lib.Seq.{drop-drop, length-take-le}
 use lib.Dec.{ltb}
 use borrow.Author.Tests.{leb-false, ltb-true}
 use Rattle.format.specs.Bytes.{all, at, le, part, over}
-use Rattle.format.specs.Layout.{Item, fld, to, wide, arity, arities, numberWith, layWith, refsGood}
+use Rattle.format.specs.Layout.{Item, fld, to, wide, asIs, arity, arities, numberWith, layWith, refsGood}
 use Rattle.format.specs.Table.{Table, pptt, srat, hmat, cedt, front, limit}
 use Rattle.format.specs.Form.{processor, cache, memory, acpi, pci, rintc, domain, matrix, side, bridge, window, xor, registers, ways, size, layout}
 use Rattle.format.specs.Node.{Node, node, bytes, sizes, starts, atOrdinal, placeOf}
@@ -25,6 +25,7 @@ use Rattle.laws.proofs.Over.{over-right, over-left, over-within}
 use Rattle.laws.proofs.Lays.{Fit, fit-length, both-true}
 use Rattle.laws.proofs.Joins.{lay-append}
 use Rattle.laws.proofs.Nodes.{length-bytes}
+use Rattle.laws.proofs.Links.{few-nodes}
 use Rattle.laws.proofs.Fits.{replicate-snoc}
 use Rattle.laws.proofs.Shapes.{plain-fld, plain-matrix}
 use Rattle.laws.proofs.Fields.{bytes-plain}
@@ -32,6 +33,7 @@ use Rattle.laws.proofs.Heads.{length-records}
 use Rattle.laws.proofs.Good.{Good}
 use Rattle.laws.proofs.Grows.{View, seesProcessor, seesMatrix, seesSide, seesWindow, seesXor, seesOther, view, Passed, Grown, grown-good, window-begun, few-targets, maths-fields, kindHome}
 use Rattle.laws.proofs.Builds.{other-table}
+use Rattle.recipe.specs.Kinds.{naming}
 use Rattle.pptt.specs.Processor as processors
 use Rattle.hmat.specs.Hmat as sides
 use Rattle.hmat.specs.Settings as matrices
@@ -39,10 +41,12 @@ use Rattle.hmat.proofs.Matrices.{entry-below, set-in-place}
 use Rattle.hmat.proofs.Sides.{fields-all}
 use Rattle.cedt.specs.Cedt as maths
 use Rattle.cedt.proofs.Windows.{set-target}
-use Rattle.build.specs.declared.State.{State}
-use Rattle.build.specs.declared.Change.{Change}
-use Rattle.build.specs.Write.{placeIn, appended, unsetMatrix, making, growing, filling, settingAt, sets, setting as setting-of, targetAt, changeOf, wrote}
-use Rattle.build.specs.Held.{Counts}
+use Rattle.writes.specs.declared.State.{State}
+use Rattle.writes.specs.declared.Change.{Change}
+use Rattle.writes.specs.declared.Found.{Found}
+use Rattle.writes.specs.Writes.{next, capped, unsetMatrix, making, growing, filling, settingAt, setting as setting-of, targetAt, changeOf, wrote}
+use Rattle.build.specs.Write.{placeIn}
+use Rattle.build.specs.Held.{Counts, Placed}
 use Rattle.build.proofs.Agrees.{pptt-agrees, named-place}
 
 -- ---- before and after
@@ -85,10 +89,10 @@ module _ {xs fs : List ℕ} {t : Table} {ns : List Node} {s : State} {out : List
   length-held : length (fs ++ records t ns) ≡ s .end
   length-held = rw (length-append, length-records) (omega (arith, h .long, h .ends))
 
-  made : (n : Node) (i j : ℕ) → Counts (newest (n ∷ ns)) (record { nodes = s .latest .nodes + 1; place = s .end; count = 0; initiators = i; targets = j }) → bytes (placeIn out) n ≡ bytes (placeOf (starts t ns)) n
-      → Turned xs fs t ns (n ∷ ns) (making s (size (n .form)) i j) (appended (s .end) n out)
+  made : (f : ℕ → ℕ) (n : Node) (i j : ℕ) → Counts (newest (n ∷ ns)) (record { nodes = next (s .latest .nodes); place = s .end; count = 0; initiators = i; targets = j }) → bytes f n ≡ bytes (placeOf (starts t ns)) n
+      → Turned xs fs t ns (n ∷ ns) (making s (size (n .form)) i j) (over out (s .end) (bytes f n))
   unfolding records
-  made n i j c e =
+  made f n i j c e =
       let g = placeOf (starts t ns) in
       let z = fs ++ records t ns in
       let l = length-held in
@@ -107,8 +111,8 @@ module _ {xs fs : List ℕ} {t : Table} {ns : List Node} {s : State} {out : List
         place = h .ends;
         counts = c;
         few = omega arith;
-        counted = rw (add-one, h .counted);
-        held = over-next xs 0 z out (s .end) (bytes g n) (appended (s .end) n out) (h .held) (rw e) (omega arith) ∙ ap (λ (l : List ℕ). over xs 0 l) (append-assoc fs (records t ns) (bytes g n));
+        counted = omega (arith, h .counted, few-nodes ns, h .short);
+        held = over-next xs 0 z out (s .end) (bytes g n) (over out (s .end) (bytes f n)) (h .held) (rw e) (omega arith) ∙ ap (λ (l : List ℕ). over xs 0 l) (append-assoc fs (records t ns) (bytes g n));
       }
 
 -- ---- the newest record changes
@@ -266,33 +270,34 @@ whole : {xs fs : List ℕ} {t : Table} {ns : List Node} {s : State} {out : List 
 whole {t = t} {ns = ns} h w = grown-good t ns w (h .good)
 
 module _ (xs fs : List ℕ) (s : State) (out : List ℕ) where
-  resource-one : (n v : ℕ) (us : List ℕ) (ns : List Node) → Laid xs fs pptt (node (processor n) us ∷ ns) s out → n < 58
+  -- q: the place of the record that it names
+  resource-one : (n v q : ℕ) (us : List ℕ) (ns : List Node) → Laid xs fs pptt (node (processor n) us ∷ ns) s out → n < 58 → q ≡ placeIn out v
       → refsGood (atOrdinal (starts pptt ns)) (body Resource) (v ∷ []) ≡ true
-      → Turned xs fs pptt (node (processor n) us ∷ ns) (node (processor (suc n)) (us ++ (v ∷ [])) ∷ ns) (growing s 20 4) (processors.grown out (s .latest .place) (s .latest .count) (record { 0 = placeIn out v }))
+      → Turned xs fs pptt (node (processor n) us ∷ ns) (node (processor (suc n)) (us ++ (v ∷ [])) ∷ ns) (growing s 20 4) (processors.grown out (s .latest .place) (s .latest .count) (record { 0 = q }))
   unfolding records sizes processors.grown body refsGood
-  resource-one n v us ns h few r =
+  resource-one n v q us ns h few f r =
       let g = placeOf (starts pptt ns) in
       let z = fs ++ records pptt ns in
       let good = whole h (other-table refl) in
       let l : length us ≡ 3 + n = fit-length (layout (processor n)) us (good .0 .fit) ∙ count-processor n in
-      let f = processorFront g n us n in
+      let fr = processorFront g n us n in
       let js = layWith g (replicate n (to 1)) (drop 3 us) in
       let old = processor-was g n us l in
-      let lf : length f ≡ 20 = length-processor g n us n in
-      let lb : length (f ++ js) ≡ 20 + 4 * n = rw old at (length-bytes g (node (processor n) us)) in
+      let lf : length fr ≡ 20 = length-processor g n us n in
+      let lb : length (fr ++ js) ≡ 20 + 4 * n = rw old at (length-bytes g (node (processor n) us)) in
       let lj : length js ≡ 4 * n = omega (arith, rw length-append at lb) in
       let lz : length z ≡ 36 + sizes ns = rw (length-append, length-records) (omega (arith, h .long)) in
       let e : out ≡ over xs 0 (fs ++ (records pptt ns ++ bytes g (node (processor n) us))) = h .held in
-      let place : placeIn out v ≡ g v =
-      ap (λ (o : List ℕ). placeIn o v) e ∙ named-place xs fs (bytes g (node (processor n) us)) ns (h .long) (rw (length-append, length-append, length-records, length-bytes) (omega (arith, h .long, h .room))) (good .1) (omega (arith, h .short)) v 1 (both-true (atOrdinal (starts pptt ns) v 1) true r .0) in
-      let o : out ≡ over xs 0 (z ++ (f ++ js)) = e ∙ rw (old, append-assoc) in
-      let w = grew xs z f js (le 1 (size (processor (suc n)))) (le 4 (suc n)) (le 4 (g v)) (s .latest .place) 1 16 (s .latest .place + size (processor n)) (h .place ∙ sym lz) (rw length-le (omega arith)) (rw length-le (omega arith)) (omega arith) in
-      changed xs fs pptt ns (node (processor n) us) (node (processor (suc n)) (us ++ (v ∷ []))) (growing s 20 4) _ [] f (processorFront g n us (suc n)) js (le 4 (g v))
-      (h .long) old (processor-is g n us l v) (length-processor g n us (suc n) ∙ sym lf) (h .place ∙ omega arith) (sym lf) (sym (length-le 4 (g v))) (h .place) (ap (λ (k : ℕ). k + 1) (h .counts) ∙ add-one n) (omega (arith, h .counts)) (h .counted)
+      let place : q ≡ g v =
+      f ∙ ap (λ (o : List ℕ). placeIn o v) e ∙ named-place xs fs (bytes g (node (processor n) us)) ns (h .long) (rw (length-append, length-append, length-records, length-bytes) (omega (arith, h .long, h .room))) (good .1) (omega (arith, h .short)) v 1 (both-true (atOrdinal (starts pptt ns) v 1) true r .0) in
+      let o : out ≡ over xs 0 (z ++ (fr ++ js)) = e ∙ rw (old, append-assoc) in
+      let w = grew xs z fr js (le 1 (size (processor (suc n)))) (le 4 (suc n)) (le 4 (g v)) (s .latest .place) 1 16 (s .latest .place + size (processor n)) (h .place ∙ sym lz) (rw length-le (omega arith)) (rw length-le (omega arith)) (omega arith) in
+      changed xs fs pptt ns (node (processor n) us) (node (processor (suc n)) (us ++ (v ∷ []))) (growing s 20 4) _ [] fr (processorFront g n us (suc n)) js (le 4 (g v))
+      (h .long) old (processor-is g n us l v) (length-processor g n us (suc n) ∙ sym lf) (h .place ∙ omega arith) (sym lf) (sym (length-le 4 (g v))) (h .place) (omega (arith, h .counts)) (omega (arith, h .counts)) (h .counted)
       (rw (h .counts, add-one n, place, o) (w ∙ rw (processor-front g n us, ← processor-is g n us l v)))
 
   handle-one : (n v : ℕ) (us : List ℕ) (ns : List Node) → Laid xs fs hmat (node (side n) us ∷ ns) s out → n < 65535
-      → Turned xs fs hmat (node (side n) us ∷ ns) (node (side (suc n)) (us ++ (v ∷ [])) ∷ ns) (growing s 32 2) (sides.grown out (s .latest .place) (s .latest .count) v)
+      → Turned xs fs hmat (node (side n) us ∷ ns) (node (side (suc n)) (us ++ (v ∷ [])) ∷ ns) (growing s 32 2) (sides.grown out (s .latest .place) (s .latest .count % 65536) v)
   unfolding records sizes sides.grown
   handle-one n v us ns h few =
       let g = placeOf (starts hmat ns) in
@@ -305,14 +310,15 @@ module _ (xs fs : List ℕ) (s : State) (out : List ℕ) where
       let lb : length (f ++ js) ≡ 32 + 2 * n = rw old at (length-bytes g (node (side n) us)) in
       let lj : length js ≡ 2 * n = omega (arith, rw length-append at lb) in
       let lz : length z ≡ 40 + sizes ns = rw (length-append, length-records) (omega (arith, h .long)) in
+      let count : s .latest .count % 65536 ≡ n = omega (arith, h .counts) in
       let o : out ≡ over xs 0 (z ++ (f ++ js)) = h .held ∙ rw (old, append-assoc) in
       let w = grew xs z f js (le 4 (size (side (suc n)))) (le 2 (suc n)) (le 2 v) (s .latest .place) 4 30 (s .latest .place + 32 + 2 * n) (h .place ∙ sym lz) (rw length-le (omega arith)) (rw length-le (omega arith)) (omega arith) in
       changed xs fs hmat ns (node (side n) us) (node (side (suc n)) (us ++ (v ∷ []))) (growing s 32 2) _ [] f (sideFront g n us (suc n)) js (le 2 v)
-      (h .long) old (side-is g n us l v) (length-side g n us (suc n) ∙ sym lf) (h .place ∙ omega arith) (sym lf) (sym (length-le 2 v)) (h .place) (ap (λ (k : ℕ). k + 1) (h .counts) ∙ add-one n) (omega (arith, h .counts)) (h .counted)
-      (rw (h .counts, add-one n, o) (w ∙ rw (side-front g n us, ← side-is g n us l v)))
+      (h .long) old (side-is g n us l v) (length-side g n us (suc n) ∙ sym lf) (h .place ∙ omega arith) (sym lf) (sym (length-le 2 v)) (h .place) (omega (arith, h .counts)) (omega (arith, h .counts)) (h .counted)
+      (rw (count, add-one n, o) (w ∙ rw (side-front g n us, ← side-is g n us l v)))
 
   map-one : (n v : ℕ) (us : List ℕ) (ns : List Node) → Laid xs fs cedt (node (xor n) us ∷ ns) s out → length us ≡ 1 + n → n < 255
-      → Turned xs fs cedt (node (xor n) us ∷ ns) (node (xor (suc n)) (us ++ (v ∷ [])) ∷ ns) (growing s 8 8) (maths.grown out (s .latest .place) (s .latest .count) v)
+      → Turned xs fs cedt (node (xor n) us ∷ ns) (node (xor (suc n)) (us ++ (v ∷ [])) ∷ ns) (growing s 8 8) (maths.grown out (s .latest .place) (s .latest .count % 65536) v)
   unfolding records sizes maths.grown
   map-one n v us ns h l few =
       let g = placeOf (starts cedt ns) in
@@ -324,11 +330,12 @@ module _ (xs fs : List ℕ) (s : State) (out : List ℕ) where
       let lb : length (f ++ js) ≡ 8 + 8 * n = rw old at (length-bytes g (node (xor n) us)) in
       let lj : length js ≡ 8 * n = omega (arith, rw length-append at lb) in
       let lz : length z ≡ 36 + sizes ns = rw (length-append, length-records) (omega (arith, h .long)) in
+      let count : s .latest .count % 65536 ≡ n = omega (arith, h .counts) in
       let o : out ≡ over xs 0 (z ++ (f ++ js)) = h .held ∙ rw (old, append-assoc) in
       let w = grew xs z f js (le 2 (size (xor (suc n)))) (le 1 (suc n)) (le 8 v) (s .latest .place) 2 7 (s .latest .place + 8 + 8 * n) (h .place ∙ sym lz) (rw length-le (omega arith)) (rw length-le (omega arith)) (omega arith) in
       changed xs fs cedt ns (node (xor n) us) (node (xor (suc n)) (us ++ (v ∷ []))) (growing s 8 8) _ [] f (mathsFront g n us (suc n)) js (le 8 v)
-      (h .long) old (maths-is g n us l v) (length-maths g n us (suc n) ∙ sym lf) (h .place ∙ omega arith) (sym lf) (sym (length-le 8 v)) (h .place) (ap (λ (k : ℕ). k + 1) (h .counts) ∙ add-one n) (omega (arith, h .counts)) (h .counted)
-      (rw (h .counts, add-one n, o) (w ∙ rw (maths-front g n us, ← maths-is g n us l v)))
+      (h .long) old (maths-is g n us l v) (length-maths g n us (suc n) ∙ sym lf) (h .place ∙ omega arith) (sym lf) (sym (length-le 8 v)) (h .place) (omega (arith, h .counts)) (omega (arith, h .counts)) (h .counted)
+      (rw (count, add-one n, o) (w ∙ rw (maths-front g n us, ← maths-is g n us l v)))
 
 -- ---- settings, and targets of a window
 
@@ -379,17 +386,18 @@ module _ (xs fs : List ℕ) (s : State) (out : List ℕ) where
       (rw (from, o) (inside xs z old [] cs (s .latest .place) k (h .place ∙ sym lz) (omega arith) ∙ rw (append-nil, ← new)))
 
   setting-one : (i t : ℕ) (us : List ℕ) (ns : List Node) (x : Setting) → Laid xs fs hmat (node (matrix i t) us ∷ ns) s out → matrices.Inside i t x
-      → Turned xs fs hmat (node (matrix i t) us ∷ ns) (node (matrix i t) (set us (spot i t x) (setTo x)) ∷ ns) (setting-of s x) (sets s x out)
+      → Turned xs fs hmat (node (matrix i t) us ∷ ns) (node (matrix i t) (set us (spot i t x) (setTo x)) ∷ ns) (setting-of s x) (over out (setting-of s x .from) (le (matrices.wideIn x) (setTo x)))
   unfolding records sizes
   setting-one i t us ns x h inn =
       let g = placeOf (starts hmat ns) in
       let l = fit-length (layout (matrix i t)) us (whole h (other-table refl) .0 .fit) in
-      let at-place : settingAt s x ≡ s .latest .place + matrices.placeIn 0 i t x = rw (h .counts .0, h .counts .1) (offset (s .latest .place) i t x) in
+      let there : settingAt s x ≡ s .latest .place + matrices.placeIn 0 i t x = rw (h .counts .0, h .counts .1) (offset (s .latest .place) i t x) in
+      let at-place : capped (settingAt s x) ≡ s .latest .place + matrices.placeIn 0 i t x = omega (arith, there, within i t x inn, h .place, h .short) in
       patched (node (matrix i t) us) (node (matrix i t) (set us (spot i t x) (setTo x))) ns h (setting-of s x) (matrices.placeIn 0 i t x) (matrices.wideIn x) (setTo x) (set-bytes g i t us x l inn) (within i t x inn) at-place refl refl (h .place) (h .counts) (h .few) (h .counted)
 
   -- the next target of a window that has k
   target-one : (n k v : ℕ) (us : List ℕ) (ns : List Node) → Laid xs fs cedt (node (window n) us ∷ ns) s out → length us ≡ 7 + k → k < n → n ≤ 16
-      → Turned xs fs cedt (node (window n) us ∷ ns) (node (window n) (us ++ (v ∷ [])) ∷ ns) (filling s (targetAt s) 4) (over out (targetAt s) (le 4 v))
+      → Turned xs fs cedt (node (window n) us ∷ ns) (node (window n) (us ++ (v ∷ [])) ∷ ns) (filling s (capped (targetAt s)) 4) (over out (targetAt s) (le 4 v))
   unfolding records sizes
   target-one n k v us ns h l few most =
       let a = node (window n) us in
@@ -398,23 +406,24 @@ module _ (xs fs : List ℕ) (s : State) (out : List ℕ) where
       let c : s .latest .count ≡ k = h .counts ∙ omega arith in
       let e : length (bytes g b) ≡ length (bytes g a) = rw (length-bytes, length-bytes) in
       let new : bytes g b ≡ over (bytes g a) (36 + 4 * k) (le 4 v) = sym (over-all (bytes g a) (bytes g b) e) ∙ sym (set-target g (bytes g a) 0 n us k v l few) ∙ rw (over-all (bytes g a) (bytes g a) refl) in
-      patched a b ns h (filling s (targetAt s) 4) (36 + 4 * k) 4 v new (omega arith) (omega arith) refl refl (h .place) (rw length-append (omega arith)) (omega arith) (h .counted)
+      let exact : capped (targetAt s) ≡ targetAt s = omega (arith, c, h .place, h .short) in
+      rw exact (patched a b ns h (filling s (targetAt s) 4) (36 + 4 * k) 4 v new (omega arith) (omega arith) refl refl (h .place) (rw length-append (omega arith)) (omega arith) (h .counted))
 
-  resource-turned : (vs : List ℕ) → Fit (body Resource) vs → {ns : List Node} {x : Newest} → View ns x → joined Resource vs x .placed ≡ true → joined Resource vs x .full ≡ false
+  resource-turned : (vs : List ℕ) (q : ℕ) → q ≡ placeIn out (at vs 0) → Fit (body Resource) vs → {ns : List Node} {x : Newest} → View ns x → joined Resource vs x .placed ≡ true → joined Resource vs x .full ≡ false
       → refsGood (atOrdinal (starts pptt (joined Resource vs x .earlier))) (body Resource) vs ≡ true → Laid xs fs pptt ns s out
-      → Turned xs fs pptt ns (joined Resource vs x .nodes) (growing s 20 4) (processors.grown out (s .latest .place) (s .latest .count) (record { 0 = placeIn out (at vs 0) }))
+      → Turned xs fs pptt ns (joined Resource vs x .nodes) (growing s 20 4) (processors.grown out (s .latest .place) (s .latest .count) (record { 0 = q }))
   unfolding joined body
-  resource-turned vs f (seesProcessor {n} {us} {ns}) p e r h =
+  resource-turned vs q d f (seesProcessor {n} {us} {ns}) p e r h =
       let a = alone vs (fit-length (body Resource) vs f) in
-      rw a (resource-one xs fs s out n (at vs 0) us ns h (omega (arith, leb-false 58 n e)) (rw a at r))
-  resource-turned vs f seesMatrix p e r h = never p
-  resource-turned vs f seesSide p e r h = never p
-  resource-turned vs f seesWindow p e r h = never p
-  resource-turned vs f seesXor p e r h = never p
-  resource-turned vs f seesOther p e r h = never p
+      rw a (resource-one xs fs s out n (at vs 0) q us ns h (omega (arith, leb-false 58 n e)) d (rw a at r))
+  resource-turned vs q d f seesMatrix p e r h = never p
+  resource-turned vs q d f seesSide p e r h = never p
+  resource-turned vs q d f seesWindow p e r h = never p
+  resource-turned vs q d f seesXor p e r h = never p
+  resource-turned vs q d f seesOther p e r h = never p
 
   handle-turned : (vs : List ℕ) → Fit (body Handle) vs → {ns : List Node} {x : Newest} → View ns x → joined Handle vs x .placed ≡ true → joined Handle vs x .full ≡ false → Laid xs fs hmat ns s out
-      → Turned xs fs hmat ns (joined Handle vs x .nodes) (growing s 32 2) (sides.grown out (s .latest .place) (s .latest .count) (at vs 0))
+      → Turned xs fs hmat ns (joined Handle vs x .nodes) (growing s 32 2) (sides.grown out (s .latest .place) (s .latest .count % 65536) (at vs 0))
   unfolding joined body
   handle-turned vs f seesProcessor p e h = never p
   handle-turned vs f seesMatrix p e h = never p
@@ -426,7 +435,7 @@ module _ (xs fs : List ℕ) (s : State) (out : List ℕ) where
   handle-turned vs f seesOther p e h = never p
 
   target-turned : (vs : List ℕ) → Fit (body WindowTarget) vs → {ns : List Node} {x : Newest} → View ns x → joined WindowTarget vs x .placed ≡ true → joined WindowTarget vs x .full ≡ false → Laid xs fs cedt ns s out
-      → Turned xs fs cedt ns (joined WindowTarget vs x .nodes) (filling s (targetAt s) 4) (over out (targetAt s) (le 4 (at vs 0)))
+      → Turned xs fs cedt ns (joined WindowTarget vs x .nodes) (filling s (capped (targetAt s)) 4) (over out (targetAt s) (le 4 (at vs 0)))
   unfolding joined body
   target-turned vs f seesProcessor p e h = never p
   target-turned vs f seesMatrix p e h = never p
@@ -439,7 +448,7 @@ module _ (xs fs : List ℕ) (s : State) (out : List ℕ) where
   target-turned vs f seesOther p e h = never p
 
   map-turned : (vs : List ℕ) → Fit (body Map) vs → {ns : List Node} {x : Newest} → View ns x → joined Map vs x .placed ≡ true → joined Map vs x .full ≡ false → Laid xs fs cedt ns s out
-      → Turned xs fs cedt ns (joined Map vs x .nodes) (growing s 8 8) (maths.grown out (s .latest .place) (s .latest .count) (at vs 0))
+      → Turned xs fs cedt ns (joined Map vs x .nodes) (growing s 8 8) (maths.grown out (s .latest .place) (s .latest .count % 65536) (at vs 0))
   unfolding joined body
   map-turned vs f seesProcessor p e h = never p
   map-turned vs f seesMatrix p e h = never p
@@ -452,7 +461,7 @@ module _ (xs fs : List ℕ) (s : State) (out : List ℕ) where
 
   setting-turned : (tests : ℕ → ℕ → List Bool) (x : Setting) → ((i t : ℕ) → all (tests i t) ≡ true → matrices.Inside i t x) → {ns : List Node} {y : Newest} → View ns y
       → setting tests (λ i t. spot i t x) (setTo x) y .placed ≡ true → all (setting tests (λ i t. spot i t x) (setTo x) y .ranges) ≡ true → Laid xs fs hmat ns s out
-      → Turned xs fs hmat ns (setting tests (λ i t. spot i t x) (setTo x) y .nodes) (setting-of s x) (sets s x out)
+      → Turned xs fs hmat ns (setting tests (λ i t. spot i t x) (setTo x) y .nodes) (setting-of s x) (over out (setting-of s x .from) (le (matrices.wideIn x) (setTo x)))
   unfolding setting
   setting-turned tests x inn seesProcessor p r h = never p
   setting-turned tests x inn (seesMatrix {i} {t} {us} {ns}) p r h = setting-one i t us ns x h (inn i t r)
@@ -463,6 +472,19 @@ module _ (xs fs : List ℕ) (s : State) (out : List ℕ) where
 
 -- ---- every kind
 
+-- a record is settled by where the record stands that it names
+parent-as : (f g : ℕ → ℕ) (vs : List ℕ) → f (at vs 1) ≡ g (at vs 1) → bytes f (node (processor 0) vs) ≡ bytes g (node (processor 0) vs)
+unfolding bytes layout layWith
+parent-as f g [] e = rw e
+parent-as f g (v ∷ []) e = rw e
+parent-as f g (v ∷ u ∷ vs) e = rw e
+
+level-as : (f g : ℕ → ℕ) (vs : List ℕ) → f (at vs 1) ≡ g (at vs 1) → bytes f (node cache vs) ≡ bytes g (node cache vs)
+unfolding bytes layout layWith
+level-as f g [] e = rw e
+level-as f g (v ∷ []) e = rw e
+level-as f g (v ∷ u ∷ vs) e = rw e
+
 module _ {xs fs : List ℕ} {ns : List Node} {s : State} {out : List ℕ} where
   among : Laid xs fs pptt ns s out → (n : Node) → Grown pptt (n ∷ ns) → bytes (placeIn out) n ≡ bytes (placeOf (starts pptt ns)) n
   unfolding bytes
@@ -470,30 +492,30 @@ module _ {xs fs : List ℕ} {ns : List Node} {s : State} {out : List ℕ} where
       let e : out ≡ over xs 0 (fs ++ (records pptt ns ++ [])) = h .held ∙ rw append-nil in
       rw e (pptt-agrees xs fs [] ns (h .long) (rw (append-nil, length-append, length-records) (omega (arith, h .long, h .room))) (whole h (other-table refl)) (h .short) (layout (n .form)) (n .values) (grown-good pptt (n ∷ ns) (other-table refl) g .0 .refs))
 
-  pub turned : (k : Kind) (vs : List ℕ) → Laid xs fs (kindHome k) ns s out → Fit (body k) vs → Passed (kindHome k) ns k vs → Grown (kindHome k) (added k vs ns)
-      → Turned xs fs (kindHome k) ns (added k vs ns) (changeOf k s vs) (wrote k s vs out)
+  pub turned : (k : Kind) (vs : List ℕ) (d : Found) → Placed out (naming k vs) d → Laid xs fs (kindHome k) ns s out → Fit (body k) vs → Passed (kindHome k) ns k vs → Grown (kindHome k) (added k vs ns)
+      → Turned xs fs (kindHome k) ns (added k vs ns) (changeOf k s vs) (wrote k s d (changeOf k s vs .from) vs out)
   unfolding step body changeOf wrote layout
-  turned Processor vs h f p g = made h (node (processor 0) vs) 0 0 refl (among h (node (processor 0) vs) g)
-  turned Resource vs h f p g = resource-turned xs fs s out vs f (view ns) (p .place) (p .room) (p .refs) h
-  turned Cache vs h f p g = made h (node cache vs) 0 0 tt (among h (node cache vs) g)
-  turned Memory vs h f p g = made h (node memory vs) 0 0 tt (bytes-plain (placeIn out) (placeOf (starts srat ns)) (node memory vs) tt)
-  turned Acpi vs h f p g = made h (node acpi vs) 0 0 tt (bytes-plain (placeIn out) (placeOf (starts srat ns)) (node acpi vs) tt)
-  turned Pci vs h f p g = made h (node pci vs) 0 0 tt (bytes-plain (placeIn out) (placeOf (starts srat ns)) (node pci vs) tt)
-  turned Rintc vs h f p g = made h (node rintc vs) 0 0 tt (bytes-plain (placeIn out) (placeOf (starts srat ns)) (node rintc vs) tt)
-  turned Domain vs h f p g = made h (node domain vs) 0 0 tt (bytes-plain (placeIn out) (placeOf (starts hmat ns)) (node domain vs) tt)
-  turned (Matrix w) vs h f p g = made h (unsetMatrix vs) (at vs 4) (at vs 5) (refl, refl) (bytes-plain (placeIn out) (placeOf (starts hmat ns)) (unsetMatrix vs) (plain-matrix (at vs 4) (at vs 5)))
-  turned (Initiator w) vs h f p g =
+  turned Processor vs d e h f p g = made h (λ v. d .processor .0) (node (processor 0) vs) 0 0 refl (parent-as (λ v. d .processor .0) (placeIn out) vs e ∙ among h (node (processor 0) vs) g)
+  turned Resource vs d e h f p g = resource-turned xs fs s out vs (d .cache .0) e f (view ns) (p .place) (p .room) (p .refs) h
+  turned Cache vs d e h f p g = made h (λ v. d .cache .0) (node cache vs) 0 0 tt (level-as (λ v. d .cache .0) (placeIn out) vs e ∙ among h (node cache vs) g)
+  turned Memory vs d e h f p g = made h asIs (node memory vs) 0 0 tt (bytes-plain asIs (placeOf (starts srat ns)) (node memory vs) tt)
+  turned Acpi vs d e h f p g = made h asIs (node acpi vs) 0 0 tt (bytes-plain asIs (placeOf (starts srat ns)) (node acpi vs) tt)
+  turned Pci vs d e h f p g = made h asIs (node pci vs) 0 0 tt (bytes-plain asIs (placeOf (starts srat ns)) (node pci vs) tt)
+  turned Rintc vs d e h f p g = made h asIs (node rintc vs) 0 0 tt (bytes-plain asIs (placeOf (starts srat ns)) (node rintc vs) tt)
+  turned Domain vs d e h f p g = made h asIs (node domain vs) 0 0 tt (bytes-plain asIs (placeOf (starts hmat ns)) (node domain vs) tt)
+  turned (Matrix w) vs d e h f p g = made h asIs (unsetMatrix vs) (at vs 4) (at vs 5) (refl, refl) (bytes-plain asIs (placeOf (starts hmat ns)) (unsetMatrix vs) (plain-matrix (at vs 4) (at vs 5)))
+  turned (Initiator w) vs d e h f p g =
       setting-turned xs fs s out (λ i t. ltb (at vs 0) i ∷ []) (initiator (at vs 0) (at vs 1)) (λ i t r. ltb-true (at vs 0) i r) (view ns) (p .place) (p .field) h
-  turned (Target w) vs h f p g =
+  turned (Target w) vs d e h f p g =
       setting-turned xs fs s out (λ i t. ltb (at vs 0) t ∷ []) (target (at vs 0) (at vs 1)) (λ i t r. ltb-true (at vs 0) t r) (view ns) (p .place) (p .field) h
-  turned (Cell w) vs h f p g =
+  turned (Cell w) vs d e h f p g =
       setting-turned xs fs s out (λ i t. ltb (at vs 0) i ∷ ltb (at vs 1) t ∷ []) (cell (at vs 0) (at vs 1) (at vs 2))
       (λ i t r. let (a, b) = both-true (ltb (at vs 0) i) (ltb (at vs 1) t) r in (ltb-true (at vs 0) i a, ltb-true (at vs 1) t b)) (view ns) (p .place) (p .field) h
-  turned Side vs h f p g = made h (node (side 0) vs) 0 0 refl (bytes-plain (placeIn out) (placeOf (starts hmat ns)) (node (side 0) vs) tt)
-  turned Handle vs h f p g = handle-turned xs fs s out vs f (view ns) (p .place) (p .room) h
-  turned Bridge vs h f p g = made h (node (bridge (registers (at vs 1))) vs) 0 0 tt (bytes-plain (placeIn out) (placeOf (starts cedt ns)) (node (bridge (registers (at vs 1))) vs) tt)
-  turned Window vs h f p g =
-      made h (node (window (ways (at vs 2))) vs) 0 0 (omega (arith, fit-length (body Window) vs f)) (bytes-plain (placeIn out) (placeOf (starts cedt ns)) (node (window (ways (at vs 2))) vs) (plain-fld (ways (at vs 2)) 4))
-  turned WindowTarget vs h f p g = target-turned xs fs s out vs f (view ns) (p .place) (p .room) h
-  turned Xor vs h f p g = made h (node (xor 0) vs) 0 0 refl (bytes-plain (placeIn out) (placeOf (starts cedt ns)) (node (xor 0) vs) tt)
-  turned Map vs h f p g = map-turned xs fs s out vs f (view ns) (p .place) (p .room) h
+  turned Side vs d e h f p g = made h asIs (node (side 0) vs) 0 0 refl (bytes-plain asIs (placeOf (starts hmat ns)) (node (side 0) vs) tt)
+  turned Handle vs d e h f p g = handle-turned xs fs s out vs f (view ns) (p .place) (p .room) h
+  turned Bridge vs d e h f p g = made h asIs (node (bridge (registers (at vs 1))) vs) 0 0 tt (bytes-plain asIs (placeOf (starts cedt ns)) (node (bridge (registers (at vs 1))) vs) tt)
+  turned Window vs d e h f p g =
+      made h asIs (node (window (ways (at vs 2))) vs) 0 0 (omega (arith, fit-length (body Window) vs f)) (bytes-plain asIs (placeOf (starts cedt ns)) (node (window (ways (at vs 2))) vs) (plain-fld (ways (at vs 2)) 4))
+  turned WindowTarget vs d e h f p g = target-turned xs fs s out vs f (view ns) (p .place) (p .room) h
+  turned Xor vs d e h f p g = made h asIs (node (xor 0) vs) 0 0 refl (bytes-plain asIs (placeOf (starts cedt ns)) (node (xor 0) vs) tt)
+  turned Map vs d e h f p g = map-turned xs fs s out vs f (view ns) (p .place) (p .room) h

@@ -11,13 +11,13 @@ use Rattle.format.specs.Node.{Node, sizes}
 use Rattle.format.specs.Recipe.{Meaning, Newest, aList, aMatrix, other, newest, cut, run, meaning}
 use Rattle.format.specs.Build.{records, header}
 use Rattle.laws.proofs.Grows.{Grown}
-use Rattle.build.specs.declared.Latest.{Latest}
+use Rattle.writes.specs.declared.Latest.{Latest}
 use Rattle.marks.specs.declared.Mark.{Mark}
 use Rattle.marks.specs.Marks.{noted, Every}
 use Rattle.recipe.specs.declared.Reference.{Reference}
 use Rattle.recipe.specs.declared.Reference.the-variants as names
-use Rattle.build.specs.declared.Found.{Found}
-use Rattle.build.specs.declared.State.{State}
+use Rattle.writes.specs.declared.Found.{Found}
+use Rattle.writes.specs.declared.State.{State}
 use Rattle.build.specs.Write.{hops, placeIn}
 
 -- the head of a recipe for a table
@@ -98,13 +98,6 @@ Goes r t s out s′ out′ = (xs : List ℕ) (m : Meaning) (ms : List ℕ) → H
 -- what all steps give, whose marks are no longer asked for
 abbrev pub Ends : List ℕ → Table → State → List ℕ → List ℕ → State → List ℕ → Type 0
 Ends r t s out ms s′ out′ = (xs : List ℕ) (m : Meaning) → Held xs r t m s out ms → (ms′ : List ℕ) × Held xs r t m s′ out′ ms′
-
--- the numbers of a state are small
-pub record Small (s : State) : Type 0 where
-  pub end : s .end ≤ limit
-  pub place : s .latest .place ≤ limit
-  pub few : s .latest .count ≤ 65535
-  pub nodes : s .latest .nodes ≤ limit
 
 -- a recipe for the table builds, and n bytes are room enough
 pub record Builds (r : List ℕ) (t : Table) (n : ℕ) : Type 0 where

@@ -1,24 +1,20 @@
 // Builds the table of a recipe: judges all of it, tests the room, and writes record by record, as the Rust's add_* do.
 ghost use mathlib.Core.Path.{_≡_};
-ghost use Prim.Native.Nat.{ℕ, _+_, _*_, _%_, _≤_, _<_};
+ghost use Prim.Native.Nat.{ℕ, _+_, _%_, _≤_, _<_};
 ghost use mathlib.Core.List.{List, []};
 ghost use lib.ListN.{length};
-ghost use Rattle.format.specs.Bytes.{at as atByte, le, value, part, over, sum as sumOf, given};
-ghost use Rattle.format.specs.Layout.{width, fields};
+ghost use Rattle.format.specs.Bytes.{le, part, over, sum as sumOf, given};
 ghost use Rattle.format.specs.Table.{hmat, front, limit};
-ghost use Rattle.format.specs.Kind.{body};
-ghost use Rattle.format.specs.Kind as format;
 ghost use Rattle.format.specs.Recipe.{Meaning, meaning};
 ghost use Rattle.format.specs.Build.{checkOf, build, table as tableOf, built};
 ghost use Rattle.header.specs.Header.{meant};
-ghost use Rattle.recipe.specs.Kinds.{meantKind, referenceOf, ordinalIn};
+ghost use Rattle.recipe.specs.Kinds.{meantKind, ordinalIn};
 ghost use Rattle.hmat.specs.Widths.{meantWidth};
-ghost use Rattle.build.specs.Write.{hops, placeIn, bodyWidth, valueIn, entryAt, wrote, making, counting, growing, filling, changeOf, Changes};
-ghost use Rattle.build.specs.Held.{frontOf, Leads, Placed, keptWith, Held, Ready, Goes, Ends, Small, Builds};
+ghost use Rattle.build.specs.Write.{hops, placeIn, bodyWidth, valueIn, entryAt, Changes};
+ghost use Rattle.build.specs.Held.{frontOf, Leads, Placed, keptWith, Held, Ready, Goes, Ends, Builds};
 ghost use Rattle.marks.specs.Marks.{Every};
 ghost use Rattle.recipe.specs.Answers.{number};
 ghost use Rattle.build.specs.Answers.{shown, numberIn, placeOf};
-use cedt::CxlFixedMemory;
 use cedt::CxlHostBridge;
 use cedt::CxlTarget;
 use cedt::XorInterleaveMath;
@@ -47,37 +43,10 @@ use recipe::Refusal;
 use srat::GenericInitiator;
 use srat::MemoryAffinity;
 use srat::RintcAffinity;
-
-// The newest record: how many there are with it, its place, how many items its list has, a matrix's I and T.
-struct Latest {
-    nodes: u32,
-    place: usize,
-    count: u32,
-    initiators: u32,
-    targets: u32,
-}
-
-// The place of the record that a record names: a processor's, or a cache's.
-struct Found {
-    processor: ProcessorHandle,
-    cache: CacheHandle,
-}
-
-// Where the pass stands: the next record of the recipe, the end of the table, its newest record, and the sum of its bytes.
-struct State {
-    at: usize,
-    end: usize,
-    latest: Latest,
-    sum: Checksum,
-}
-
-// What a record does to the table: so many bytes from a place on change, and so many more come at the end.
-struct Change {
-    from: usize,
-    len: usize,
-    more: usize,
-    latest: Latest,
-}
+use writes::Change;
+use writes::Found;
+use writes::Latest;
+use writes::State;
 
 // The length of the table, or a refusal: without room the length that is needed, else the place in the recipe.
 pub enum Built {
@@ -194,270 +163,7 @@ fn keep(latest: Latest, marks: &mut [u64], shift: u32)
     mark.note(marks, shift, nodes as usize);
 }
 
-// ---- HMAT
-
-// Sets a value of the newest matrix, whose place is known.
-fn set_value(width: Width, bytes: &[u8], out: &mut [u8], place: usize)
-    requires { ⌜ place + 4 ≤ length (now out) ⌝ }
-    ensures { λ _. ⌜ now (out .exit) ≡ over (now (out .entry)) place (le 4 (atByte (fields (body (format.Initiator (meantWidth width))) (now (bytes .entry))) 1)) ⌝ }
-{
-    let x = Value::from_body(width, bytes);
-    let end = place + Value::LEN;
-    field::put_u32(&mut out[place..end], 0, x.value);
-}
-
-fn set_cell(width: Width, bytes: &[u8], out: &mut [u8], place: usize)
-    ensures { λ _. ⌜ now (out .exit) ≡ over (now (out .entry)) place (le 2 (atByte (fields (body (format.Cell (meantWidth width))) (now (bytes .entry))) 2)) ⌝ }
-{
-    field::put_u16(out, place, Cell::from_body(width, bytes).value);
-}
-
 // ---- one record
-
-// Writes the record of a kind whose body the bytes begin with; found: the record that it names; change: what it changes.
-fn put(kind: Kind, bytes: &[u8], out: &mut [u8], s: State, found: Found, change: Change)
-    requires { ⌜ Small s × Placed (now out) (referenceOf (meantKind kind) (now bytes)) found × (width (body (meantKind kind)) ≤ length (now bytes)) × (change ≡ changeOf (meantKind kind) s (fields (body (meantKind kind)) (now bytes))) × (change .from + change .len ≤ length (now out)) ⌝ }
-    ensures { λ _. ⌜ now (out .exit) ≡ wrote (meantKind kind) s (fields (body (meantKind kind)) (now (bytes .entry))) (now (out .entry)) ⌝ }
-{
-    let end = s.end;
-    let latest = s.latest;
-    let place = latest.place;
-    match kind {
-        Kind::Processor => ProcessorNode::from_body(&bytes[..ProcessorNode::BODY])
-            .named(found.processor)
-            .put(out, end),
-        Kind::Resource => ProcessorNode::add_cache(out, place, latest.count, found.cache),
-        Kind::Cache => CacheNode::from_body(&bytes[..CacheNode::BODY])
-            .named(found.cache)
-            .put(out, end),
-        Kind::Memory => MemoryAffinity::from_body(&bytes[..MemoryAffinity::BODY]).put(out, end),
-        Kind::Acpi => GenericInitiator::from_acpi_body(&bytes[..GenericInitiator::ACPI_BODY]).put(
-            out,
-            end,
-        ),
-        Kind::Pci => GenericInitiator::from_pci_body(&bytes[..GenericInitiator::PCI_BODY]).put(
-            out,
-            end,
-        ),
-        Kind::Rintc => RintcAffinity::from_body(&bytes[..RintcAffinity::BODY]).put(out, end),
-        Kind::Domain => MemoryProximityDomain::from_body(&bytes[..MemoryProximityDomain::BODY]).put(
-            out,
-            end,
-        ),
-        Kind::Matrix => SystemLocality::from_body(Width::Byte, bytes).put(out, end),
-        Kind::Initiator => set_value(Width::Byte, bytes, out, change.from),
-        Kind::Target => set_value(Width::Byte, bytes, out, change.from),
-        Kind::Cell => set_cell(Width::Byte, bytes, out, change.from),
-        Kind::Side => MemorySideCache::from_body(&bytes[..MemorySideCache::BODY]).put(out, end),
-        Kind::Handle => MemorySideCache::grow(
-            out,
-            place,
-            latest.count as u16,
-            SmbiosHandle::from_body(&bytes[..SmbiosHandle::BODY]),
-        ),
-        Kind::Bridge => CxlHostBridge::from_body(&bytes[..CxlHostBridge::BODY]).put(out, end),
-        Kind::Window => CxlFixedMemory::from_body(&bytes[..CxlFixedMemory::BODY]).put(out, end),
-        Kind::WindowTarget => CxlFixedMemory::add_target(
-            out,
-            place,
-            latest.count as usize,
-            CxlTarget::from_body(&bytes[..CxlTarget::BODY]),
-        ),
-        Kind::Xor => XorInterleaveMath::from_body(&bytes[..XorInterleaveMath::BODY]).put(out, end),
-        Kind::Map => XorInterleaveMath::add_xormap(
-            out,
-            place,
-            latest.count as u16,
-            XorMap::from_body(&bytes[..XorMap::BODY]),
-        ),
-        Kind::WideMatrix => SystemLocality::from_body(Width::Pair, bytes).put(out, end),
-        Kind::WideInitiator => set_value(Width::Pair, bytes, out, change.from),
-        Kind::WideTarget => set_value(Width::Pair, bytes, out, change.from),
-        Kind::WideCell => set_cell(Width::Pair, bytes, out, change.from),
-    }
-}
-
-impl State {
-    // A record is made at the end; i and t are a matrix's own.
-    fn making(self, more: usize, initiators: u32, targets: u32) -> Change
-        requires { ⌜ Small self ⌝ }
-        ensures { λ r. ⌜ r ≡ making self more initiators targets ⌝ }
-    {
-        let latest = self.latest;
-        Change {
-            from: self.end,
-            len: 0,
-            more,
-            latest: Latest {
-                nodes: latest.nodes + 1,
-                place: self.end,
-                count: 0,
-                initiators,
-                targets,
-            },
-        }
-    }
-
-    // The newest record with one item more.
-    fn counting(self) -> Latest
-        requires { ⌜ Small self ⌝ }
-        ensures { λ r. ⌜ r ≡ counting self ⌝ }
-    {
-        let latest = self.latest;
-        Latest {
-            nodes: latest.nodes,
-            place: latest.place,
-            count: latest.count + 1,
-            initiators: latest.initiators,
-            targets: latest.targets,
-        }
-    }
-
-    // The newest record gets one item more, and its first bytes say so.
-    fn growing(self, len: usize, more: usize) -> Change
-        requires { ⌜ Small self ⌝ }
-        ensures { λ r. ⌜ r ≡ growing self len more ⌝ }
-    {
-        let latest = self.latest;
-        Change {
-            from: latest.place,
-            len,
-            more,
-            latest: self.counting(),
-        }
-    }
-
-    // The newest record has room for its next item: it is set.
-    fn filling(self, from: usize, len: usize) -> Change
-        requires { ⌜ Small self ⌝ }
-        ensures { λ r. ⌜ r ≡ filling self from len ⌝ }
-    {
-        Change {
-            from,
-            len,
-            more: 0,
-            latest: self.counting(),
-        }
-    }
-
-    // Some bytes of the newest record are set.
-    fn setting(self, from: usize, len: usize) -> Change
-        ensures { λ r. ⌜ r ≡ record { from = from; len = len; more = 0; latest = self .latest } ⌝ }
-    {
-        let latest = self.latest;
-        Change {
-            from,
-            len,
-            more: 0,
-            latest,
-        }
-    }
-}
-
-// A matrix is made at the end.
-fn making_matrix(width: Width, bytes: &[u8], s: State) -> Change
-    requires { ⌜ Small s ⌝ }
-    ensures { λ r. ⌜ r ≡ changeOf (format.Matrix (meantWidth width)) s (fields (body (format.Matrix (meantWidth width))) (now (bytes .entry))) ⌝ }
-{
-    let node = SystemLocality::from_body(width, bytes);
-    s.making(node.len(), node.initiators, node.targets)
-}
-
-// A value or a cell of the newest matrix is set.
-fn setting_initiator(width: Width, bytes: &[u8], s: State) -> Change
-    requires { ⌜ Small s ⌝ }
-    ensures { λ r. ⌜ r ≡ changeOf (format.Initiator (meantWidth width)) s (fields (body (format.Initiator (meantWidth width))) (now (bytes .entry))) ⌝ }
-{
-    let latest = s.latest;
-    let idx = Value::from_body(width, bytes).idx as usize;
-    s.setting(
-        SystemLocality::initiator_place(latest.place, idx),
-        Value::LEN,
-    )
-}
-
-fn setting_target(width: Width, bytes: &[u8], s: State) -> Change
-    requires { ⌜ Small s ⌝ }
-    ensures { λ r. ⌜ r ≡ changeOf (format.Target (meantWidth width)) s (fields (body (format.Target (meantWidth width))) (now (bytes .entry))) ⌝ }
-{
-    let latest = s.latest;
-    let idx = Value::from_body(width, bytes).idx as usize;
-    s.setting(
-        SystemLocality::target_place(latest.place, latest.initiators as usize, idx),
-        Value::LEN,
-    )
-}
-
-fn setting_cell(width: Width, bytes: &[u8], s: State) -> Change
-    requires { ⌜ Small s ⌝ }
-    ensures { λ r. ⌜ r ≡ changeOf (format.Cell (meantWidth width)) s (fields (body (format.Cell (meantWidth width))) (now (bytes .entry))) ⌝ }
-{
-    let latest = s.latest;
-    let x = Cell::from_body(width, bytes);
-    s.setting(
-        SystemLocality::cell_place(
-            latest.place,
-            latest.initiators,
-            latest.targets,
-            x.initiator_idx as u32,
-            x.target_idx as u32,
-        ),
-        Cell::LEN,
-    )
-}
-
-// A window is made at the end, with room for its targets.
-fn making_window(bytes: &[u8], s: State) -> Change
-    requires { ⌜ Small s ⌝ }
-    ensures { λ r. ⌜ r ≡ changeOf format.Window s (fields (body format.Window) (now (bytes .entry))) ⌝ }
-{
-    let node = CxlFixedMemory::from_body(bytes);
-    s.making(node.len(), 0, 0)
-}
-
-// The newest window's next target is set.
-fn filling_window(s: State) -> Change
-    requires { ⌜ Small s ⌝ }
-    ensures { λ r. ⌜ ((vs : List ℕ) → r ≡ changeOf format.WindowTarget s vs) ⌝ }
-{
-    let latest = s.latest;
-    s.filling(
-        CxlFixedMemory::target_place(latest.place, latest.count as usize),
-        CxlTarget::LEN,
-    )
-}
-
-// What the record of a kind changes.
-fn change_of(kind: Kind, bytes: &[u8], s: State) -> Change
-    requires { ⌜ Small s ⌝ }
-    ensures { λ r. ⌜ r ≡ changeOf (meantKind kind) s (fields (body (meantKind kind)) (now (bytes .entry))) ⌝ }
-{
-    match kind {
-        Kind::Processor => s.making(ProcessorNode::LEN, 0, 0),
-        Kind::Resource => s.growing(ProcessorNode::LEN, Resource::LEN),
-        Kind::Cache => s.making(CacheNode::LEN, 0, 0),
-        Kind::Memory => s.making(MemoryAffinity::LEN, 0, 0),
-        Kind::Acpi => s.making(GenericInitiator::LEN, 0, 0),
-        Kind::Pci => s.making(GenericInitiator::LEN, 0, 0),
-        Kind::Rintc => s.making(RintcAffinity::LEN, 0, 0),
-        Kind::Domain => s.making(MemoryProximityDomain::LEN, 0, 0),
-        Kind::Matrix => making_matrix(Width::Byte, bytes, s),
-        Kind::Initiator => setting_initiator(Width::Byte, bytes, s),
-        Kind::Target => setting_target(Width::Byte, bytes, s),
-        Kind::Cell => setting_cell(Width::Byte, bytes, s),
-        Kind::Side => s.making(MemorySideCache::LEN, 0, 0),
-        Kind::Handle => s.growing(MemorySideCache::LEN, SmbiosHandle::LEN),
-        Kind::Bridge => s.making(CxlHostBridge::LEN, 0, 0),
-        Kind::Window => making_window(bytes, s),
-        Kind::WindowTarget => filling_window(s),
-        Kind::Xor => s.making(XorInterleaveMath::LEN, 0, 0),
-        Kind::Map => s.growing(XorInterleaveMath::LEN, XorMap::LEN),
-        Kind::WideMatrix => making_matrix(Width::Pair, bytes, s),
-        Kind::WideInitiator => setting_initiator(Width::Pair, bytes, s),
-        Kind::WideTarget => setting_target(Width::Pair, bytes, s),
-        Kind::WideCell => setting_cell(Width::Pair, bytes, s),
-    }
-}
 
 // The four bytes of a length.
 fn length_bytes(n: usize) -> [u8; 4]
@@ -599,12 +305,12 @@ fn step(recipe: &[u8], table: Table, out: &mut [u8], marks: &[u64], shift: u32, 
     };
     let start = at + 1;
     let next = start + kind.body_len();
-    let bytes = field::rest(recipe, start);
-    let change = change_of(kind, bytes, s);
+    let bytes = &recipe[start..next];
+    let change = writes::change_of(kind, bytes, s);
     let end = s.end + change.more;
     let old = before(kind, out, change, s.sum);
     let found = look_for(out, marks, shift, kind.refers(bytes));
-    put(kind, bytes, out, s, found, change);
+    writes::put(kind, bytes, out, s, found, change.from);
     let sum = after(kind, out, change, s.end, old);
     let latest = change.latest;
     State {

@@ -5,7 +5,7 @@ use borrow.Author.Needs.{needs}
 use Rattle.format.specs.Form.{byte, pair}
 use Rattle.format.specs.Kind.{Processor, Resource, Cache, Memory, Acpi, Pci, Rintc, Domain, Matrix, Initiator, Target, Cell, Side, Handle, Bridge, Window, WindowTarget, Xor, Map}
 use Rattle.recipe.specs.Kinds.{meantKind}
-use Rattle.build.specs.Write.{changeOf}
+use Rattle.writes.specs.Writes.{changeOf}
 use Rattle.build.proofs.Changes.{len-is, more-is}
 use Rattle.build.proofs.Sums.{made-after, grown-after, set-after}
 use Rattle.build.proofs.after.Statement.{statement}

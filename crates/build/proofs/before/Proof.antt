@@ -8,7 +8,7 @@ use Rattle.format.specs.Form.{byte, pair}
 use Rattle.format.specs.Kind.{Processor, Resource, Cache, Memory, Acpi, Pci, Rintc, Domain, Matrix, Initiator, Target, Cell, Side, Handle, Bridge, Window, WindowTarget, Xor, Map}
 use Rattle.format.specs.Build.{checkOf}
 use Rattle.recipe.specs.Kinds.{meantKind}
-use Rattle.build.specs.Write.{changeOf}
+use Rattle.writes.specs.Writes.{changeOf}
 use Rattle.build.proofs.Changes.{len-is}
 use Rattle.build.proofs.Sums.{sum-same}
 use Rattle.build.proofs.before.Statement.{statement}

@@ -8,7 +8,7 @@ use lib.ListN.{length}
 use Rattle.format.specs.Recipe.{Meaning}
 use Rattle.header.specs.Header.{meant}
 use Rattle.build.specs.Held.{Held}
-use Rattle.build.proofs.Steps.{small, kept}
+use Rattle.build.proofs.Steps.{low, kept}
 use Rattle.build.proofs.put_records.Statement.{statement}
 use Rattle.build.proofs.put_records.Tie as tie
 
@@ -36,7 +36,7 @@ keep-requires c κs =
     let b = c .before .before .before .before .before .before .before .before .before .before .before .before in
     let y = b .pre in
     let h = c .before .before .before .step .ensures .1 (y .start) (y .meant) (l .marks) (l .inv .2 (y .start) (y .meant) (y .holds)) in
-    small (b .args .recipe .now) (meant (b .args .table)) _ _ (l .marks) (record { start = y .start; meant = y .meant; holds = h }) .place
+    low (b .args .recipe .now) (meant (b .args .table)) _ _ (l .marks) (record { start = y .start; meant = y .meant; holds = h })
 
 put-cells-requires : tie.Need-put-cells-requires Inv-loop μ-loop
 put-cells-requires c κs =

@@ -7,9 +7,9 @@ use lib.ListN.{length}
 use Rattle.format.specs.Table.{hmat}
 use Rattle.hmat.specs.Widths.{meantWidth}
 use Rattle.hmat.proofs.Bodies.{cell-small}
-use Rattle.build.specs.declared.State.{State}
+use Rattle.writes.specs.declared.State.{State}
 use Rattle.build.specs.Held.{Goes}
-use Rattle.build.proofs.Steps.{small}
+use Rattle.build.proofs.Steps.{low}
 use Rattle.build.proofs.Places.{target-exact}
 use Rattle.build.proofs.Cells.{held-at, cell-whole, cell-in, cell-goes}
 use Rattle.build.proofs.put_run.Statement.{statement}
@@ -45,7 +45,7 @@ put-cell-requires c κs =
     let y = b .pre .1 in
     let s : State = record { at = l .at; end = a .s .end; latest = a .s .latest; sum = l .sum } in
     let h = held-at (a .recipe .now) (a .s) s (a .out .now) (l .out) ms y (l .inv .2) in
-    let z = target-exact (a .s .latest .place) (a .s .latest .initiators) (a .s .latest .targets) _ (small (a .recipe .now) hmat (a .s) (a .out .now) ms y .place) (omega (arith, p .before .struct-known .given)) (omega (arith, p .before .struct-known .given)) (p .target-place .ensures) in
+    let z = target-exact (a .s .latest .place) (a .s .latest .initiators) (a .s .latest .targets) _ (low (a .recipe .now) hmat (a .s) (a .out .now) ms y) (omega (arith, p .before .struct-known .given)) (omega (arith, p .before .struct-known .given)) (p .target-place .ensures) in
     let e = c .before .if1 .left ∙ k .kind .ensures in (
       cell-whole w (y .start) (a .recipe .now) (y .meant) s (l .out) ms h (c .before .before .before .loop-test .taken) e,
       rw z (cell-in w (y .start) (a .recipe .now) (y .meant) s (l .out) ms h (c .before .before .before .loop-test .taken) e),
@@ -76,7 +76,7 @@ loop-again c =
     let b = p .before .before .before .before .before in
     let a = b .args in
     let s : State = record { at = l .at; end = a .s .end; latest = a .s .latest; sum = l .sum } in
-    let z = target-exact (a .s .latest .place) (a .s .latest .initiators) (a .s .latest .targets) _ (small (a .recipe .now) hmat (a .s) (a .out .now) (b .pre .0) (b .pre .1) .place) (omega (arith, p .before .struct-known .given)) (omega (arith, p .before .struct-known .given)) (p .target-place .ensures) in
+    let z = target-exact (a .s .latest .place) (a .s .latest .initiators) (a .s .latest .targets) _ (low (a .recipe .now) hmat (a .s) (a .out .now) (b .pre .0) (b .pre .1)) (omega (arith, p .before .struct-known .given)) (omega (arith, p .before .struct-known .given)) (p .target-place .ensures) in
     let q = c .before .before .put-cell in (
       search needs,
       omega (arith, l .inv .1),

@@ -1,18 +1,22 @@
 -- `replace` meets its contract: two bytes of a window leave the sum, and the two of the number come.
-use mathlib.Core.Path.{_≡_}
+use mathlib.Core.Path.{_≡_, sym, ap, _∙_}
+use mathlib.Core.List.{List}
 use mathlib.Core.Logic.{inl}
-use Prim.Native.Nat.{_+_, _-_}
+use Prim.Native.Nat.{ℕ, _+_, _-_, _<_}
 use native.Mathlib.Omega.{arith}
 use native.Mathlib.Nat.{add-zero}
 use borrow.Author.Needs.{needs}
 use lib.ListN.{take, drop}
-use Rattle.format.specs.Bytes.{at, le}
-use Rattle.laws.proofs.Bytes.{length-le}
+use Rattle.format.specs.Bytes.{at, le, value}
+use Rattle.laws.proofs.Bytes.{length-le, part-window, value-byte}
 use Rattle.laws.proofs.Over.{over-window}
 use Rattle.build.proofs.Sums.{sum-replaced}
-use Rattle.build.proofs.Windows.{at-window}
 use Rattle.build.proofs.replace.Statement.{statement}
 use Rattle.build.proofs.replace.Tie as tie
+
+-- a byte of n bytes from place p on
+at-window : (bs : List ℕ) (p n i : ℕ) → i < n → at (take n (drop p bs)) i ≡ at bs (p + i)
+at-window bs p n i h = value-byte (take n (drop p bs)) i ∙ ap value (part-window bs p n i 1 (omega arith)) ∙ sym (value-byte bs (p + i))
 
 returns : tie.Need-returns
 returns c =

@@ -1,0 +1,4 @@
+pub mod Plains
+pub mod Windows
+pub mod Matrices
+pub mod Unique
