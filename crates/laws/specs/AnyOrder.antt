@@ -69,6 +69,7 @@ Builds r = (room : ℕ) × (n : ℕ) × (build r room ≡ given n)
 abbrev pub SetsAs : Width → Rec → Type 0
 SetsAs w a = partIn (a .kind) ≡ sets w
 
+-- of a matrix of either width
 abbrev pub Sets : Rec → Type 0
 Sets a = (w : Width) × SetsAs w a
 
