@@ -1,11 +1,8 @@
 // All that a table says, in words: it is judged once, and then its header and each record are printed, field by field.
 ghost use Prim.Native.Nat.{_+_, _^_, _<_};
 
-mod affinities;
-mod localities;
 mod nodes;
 mod windows;
-mod words;
 
 use frames::Refusal;
 use frames::Spelled;
@@ -60,16 +57,16 @@ fn fields(table: &[u8], place: usize, node: Node, all: bool) {
     match node {
         Node::Processor(n) => nodes::processor(table, place, n),
         Node::Cache(n) => nodes::cache(table, n),
-        Node::Memory(n) => affinities::memory(n),
-        Node::Initiator(n) => affinities::initiator(n),
-        Node::OldRintc(n) => affinities::old_rintc(n),
-        Node::Domain(n) => localities::domain(n),
-        Node::Matrix(n) => localities::matrix(table, place, n, all),
-        Node::Side(n) => localities::side(table, place, n),
+        Node::Memory(n) => domains::memory(n),
+        Node::Initiator(n) => domains::initiator(n),
+        Node::OldRintc(n) => domains::old_rintc(n),
+        Node::Domain(n) => domains::domain(n),
+        Node::Matrix(n) => domains::matrix(table, place, n, all),
+        Node::Side(n) => domains::side(table, place, n),
         Node::Bridge(n) => windows::bridge(n),
         Node::Window(n) => windows::window(table, place, n),
         Node::Xor(n) => windows::maths(table, place, n),
-        Node::Rintc(n) => affinities::rintc(n),
+        Node::Rintc(n) => domains::rintc(n),
         Node::Unknown => unknown(read::part_at(table, EVERY, place)),
     }
 }

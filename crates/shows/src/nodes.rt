@@ -1,5 +1,4 @@
 // The records of PPTT.
-use crate::words;
 use pptt::CacheNode;
 use pptt::CacheNodeBuilder;
 use pptt::ProcessorNode;

@@ -1,5 +1,4 @@
 // The records of CEDT.
-use crate::words;
 use cedt::CxlFixedMemory;
 use cedt::CxlHostBridge;
 use cedt::XorInterleaveMath;

@@ -1,8 +1,8 @@
--- `shows::localities::entry_lines` is safe and ends: one initiator fewer is left with each turn.
+-- `domains::entries::entry_lines` is safe and ends: one initiator fewer is left with each turn.
 use Prim.Native.Nat.{_-_}
 use borrow.Author.Needs.{needs}
-use Rattle.shows.proofs.localities.entry_lines.Statement.{statement}
-use Rattle.shows.proofs.localities.entry_lines.Tie as tie
+use Rattle.domains.proofs.entries.entry_lines.Statement.{statement}
+use Rattle.domains.proofs.entries.entry_lines.Tie as tie
 
 abbrev Inv-loop : tie.InvT-loop
 Inv-loop table g columns from to i₀ i = Unit

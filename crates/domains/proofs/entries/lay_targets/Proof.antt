@@ -1,8 +1,8 @@
--- `shows::localities::lay_targets` is safe and ends: one target fewer is left with each turn.
+-- `domains::entries::lay_targets` is safe and ends: one target fewer is left with each turn.
 use Prim.Native.Nat.{_-_}
 use borrow.Author.Needs.{needs}
-use Rattle.shows.proofs.localities.lay_targets.Statement.{statement}
-use Rattle.shows.proofs.localities.lay_targets.Tie as tie
+use Rattle.domains.proofs.entries.lay_targets.Statement.{statement}
+use Rattle.domains.proofs.entries.lay_targets.Tie as tie
 
 abbrev Inv-loop : tie.InvT-loop
 Inv-loop line₀ start table g from to initiators at₀ t₀ line at t = Unit

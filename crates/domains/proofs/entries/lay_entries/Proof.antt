@@ -1,8 +1,8 @@
--- `shows::localities::lay_entries` is safe and ends: one target fewer is left with each turn.
+-- `domains::entries::lay_entries` is safe and ends: one target fewer is left with each turn.
 use Prim.Native.Nat.{_-_}
 use borrow.Author.Needs.{needs}
-use Rattle.shows.proofs.localities.lay_entries.Statement.{statement}
-use Rattle.shows.proofs.localities.lay_entries.Tie as tie
+use Rattle.domains.proofs.entries.lay_entries.Statement.{statement}
+use Rattle.domains.proofs.entries.lay_entries.Tie as tie
 
 abbrev Inv-loop : tie.InvT-loop
 Inv-loop line₀ start table g i from to at₀ t₀ line at t = Unit

@@ -1,5 +1,9 @@
 // Words and numbers on standard output; a field is a line of its own.
-ghost use Prim.Native.Nat.{_≤_};
+ghost use mathlib.Core.Bool.{true};
+ghost use mathlib.Core.Path.{_≡_};
+ghost use lib.Bits.{bitAnd};
+ghost use lib.Dec.{eqb};
+ghost use Rattle.format.specs.Bytes.{pick};
 use libc::STDOUT_FILENO;
 
 // Bytes as they are.
@@ -60,7 +64,9 @@ pub fn flags(n: u64) {
 }
 
 // One more name in a list, with a comma where others stand before it; now there are some.
-pub fn item(word: &[u8], some: bool) -> bool {
+pub fn item(word: &[u8], some: bool) -> bool
+    ensures { λ r. ⌜ r ≡ true ⌝ }
+{
     if some {
         say(b", ");
     } else {
@@ -71,7 +77,9 @@ pub fn item(word: &[u8], some: bool) -> bool {
 }
 
 // The name of a bit, where it is set; whether the list has some names then.
-pub fn bit(flags: u32, unit: u32, word: &[u8], some: bool) -> bool {
+pub fn bit(flags: u32, unit: u32, word: &[u8], some: bool) -> bool
+    ensures { λ r. ⌜ r ≡ pick (eqb (bitAnd flags unit) 0) some true ⌝ }
+{
     if flags & unit == 0 {
         return some;
     }
@@ -134,80 +142,21 @@ pub fn text(s: &[u8], n: usize) {
     say(b"\"");
 }
 
-// ---- lines that are made before they are written
-
-// Lays a byte behind a space; where the next may stand, or the same place where the line is full.
-fn lay_byte(line: &mut [u8; 4096], at: usize, b: u8) -> usize {
-    if 4000 < at {
-        return at;
-    }
-    let mut digits = [0u8; 16];
-    let n = io::hex(b as u64, 2, &mut digits);
-    field::put_u8(line, at, 32);
-    field::copy(line, at + 1, &digits[..n]);
-    at + 3
-}
-
-// Makes room for some columns more: writes what is laid where there is none; where the next may stand.
-fn clear(line: &[u8; 4096], at: usize, width: usize) -> usize
-    requires { ⌜ at ≤ 4096 ⌝ }
-    ensures { λ r. ⌜ r ≤ 4096 ⌝ }
-{
-    if 4096 - at < width {
-        prints::write_first(line, at);
-        return 0;
-    }
-    at
-}
-
-// Lays a word so that it ends a column; where the column ends, or the same place where it is narrower than the word.
-pub fn lay_right(line: &mut [u8; 4096], at: usize, width: usize, word: &[u8]) -> usize {
-    let n = word.len();
-    if 4096 < at {
-        return at;
-    }
-    if 4096 < width {
-        return at;
-    }
-    if width < n {
-        return at;
-    }
-    let at = clear(line, at, width);
-    field::fill(line, at, width, 32);
-    field::copy(line, at + (width - n), word);
-    at + width
-}
-
-// The same for a number.
-pub fn lay_number(line: &mut [u8; 4096], at: usize, width: usize, v: u64) -> usize {
-    let mut digits = [0u8; 20];
-    let n = io::decimal(v, &mut digits);
-    lay_right(line, at, width, &digits[..n])
-}
-
-// Writes what is laid, and ends the line.
-pub fn write_line(line: &mut [u8; 4096], at: usize) {
-    if 4096 < at {
-        return;
-    }
-    let at = clear(line, at, 1);
-    field::put_u8(line, at, 10);
-    prints::write_first(line, at + 1);
-}
-
-// The first sixteen bytes, or as many as there are.
+// The first sixteen bytes, or as many as there are: laid first, and written by one call.
 fn byte_line(s: &[u8]) {
-    let mut line = io::buffer();
-    let mut at = lay_right(&mut line, 0, 3, b"");
+    let mut line = [0u8; 52];
+    let mut n = text::bytes(&mut line, 0, b"   ");
     let mut i = 0;
     while i < 16 {
         if s.len() <= i {
             break;
         }
-        at = lay_byte(&mut line, at, s[i]);
+        n = text::byte(&mut line, n, 32);
+        n = text::hex(&mut line, n, field::part(s, i, 1));
         i += 1;
     }
-    write_line(&mut line, at);
+    n = text::byte(&mut line, n, 10);
+    prints::write_first(&line, n);
 }
 
 // All bytes, sixteen a line.

@@ -1,8 +1,8 @@
--- `shows::localities::handles` is safe and ends: one handle fewer is left with each turn.
+-- `domains::handles` is safe and ends: one handle fewer is left with each turn.
 use Prim.Native.Nat.{_-_}
 use borrow.Author.Needs.{needs}
-use Rattle.shows.proofs.localities.handles.Statement.{statement}
-use Rattle.shows.proofs.localities.handles.Tie as tie
+use Rattle.domains.proofs.handles.Statement.{statement}
+use Rattle.domains.proofs.handles.Tie as tie
 
 abbrev Inv-loop : tie.InvT-loop
 Inv-loop table place count i₀ t6 i = Unit

@@ -1,8 +1,8 @@
--- `shows::localities::entry_width` is safe and ends: one target fewer is left with each turn.
+-- `domains::entries::entry_width` is safe and ends: one target fewer is left with each turn.
 use Prim.Native.Nat.{_-_}
 use borrow.Author.Needs.{needs}
-use Rattle.shows.proofs.localities.entry_width.Statement.{statement}
-use Rattle.shows.proofs.localities.entry_width.Tie as tie
+use Rattle.domains.proofs.entries.entry_width.Statement.{statement}
+use Rattle.domains.proofs.entries.entry_width.Tie as tie
 
 abbrev Inv-loop : tie.InvT-loop
 Inv-loop table place initiators targets w₀ t₀ w t = Unit

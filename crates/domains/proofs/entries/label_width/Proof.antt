@@ -1,8 +1,8 @@
--- `shows::localities::label_width` is safe and ends: one initiator fewer is left with each turn.
+-- `domains::entries::label_width` is safe and ends: one initiator fewer is left with each turn.
 use Prim.Native.Nat.{_-_}
 use borrow.Author.Needs.{needs}
-use Rattle.shows.proofs.localities.label_width.Statement.{statement}
-use Rattle.shows.proofs.localities.label_width.Tie as tie
+use Rattle.domains.proofs.entries.label_width.Statement.{statement}
+use Rattle.domains.proofs.entries.label_width.Tie as tie
 
 abbrev Inv-loop : tie.InvT-loop
 Inv-loop table place initiators w₀ i₀ w i = Unit

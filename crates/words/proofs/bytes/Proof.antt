@@ -1,9 +1,9 @@
--- `shows::words::bytes` is safe and ends: fewer bytes are left with each turn.
+-- `words::bytes` is safe and ends: fewer bytes are left with each turn.
 use Prim.Native.Nat.{_-_}
 use borrow.Author.Needs.{needs}
 use lib.ListN.{length}
-use Rattle.shows.proofs.words.bytes.Statement.{statement}
-use Rattle.shows.proofs.words.bytes.Tie as tie
+use Rattle.words.proofs.bytes.Statement.{statement}
+use Rattle.words.proofs.bytes.Tie as tie
 
 abbrev Inv-loop : tie.InvT-loop
 Inv-loop s at₀ at = Unit

@@ -1,7 +1,7 @@
--- `shows::words::trimmed` is safe and ends: one byte fewer is left with each turn.
+-- `words::trimmed` is safe and ends: one byte fewer is left with each turn.
 use borrow.Author.Needs.{needs}
-use Rattle.shows.proofs.words.trimmed.Statement.{statement}
-use Rattle.shows.proofs.words.trimmed.Tie as tie
+use Rattle.words.proofs.trimmed.Statement.{statement}
+use Rattle.words.proofs.trimmed.Tie as tie
 
 abbrev Inv-loop : tie.InvT-loop
 Inv-loop s n k₀ k = Unit
