@@ -45,12 +45,17 @@ def wide(i, t, settings=b""):
     return struct.pack("<BBBBQHH", 55, 0, 1, 0, 100, i, t) + settings, size(i, t)
 
 
-def values(i, t, step=1, kind=49):
-    """Every value and cell of a matrix of this kind, in order or in reverse."""
+def every(i, t, kind=49):
+    """Of a matrix of this kind every value, and every cell."""
     value, cell = ("<BBI", "<BBBH") if kind == 49 else ("<BHI", "<BHHH")
-    out = [struct.pack(value, kind + 1, k, k + 1) for k in range(i)] + [struct.pack(value, kind + 2, k, k + 1) for k in range(t)]
-    out += [struct.pack(cell, kind + 3, k // t, k % t, k % 1000) for k in range(i * t)]
-    return b"".join(out[::step])
+    sides = [struct.pack(value, kind + 1, k, k + 1) for k in range(i)] + [struct.pack(value, kind + 2, k, k + 1) for k in range(t)]
+    return sides, [struct.pack(cell, kind + 3, k // t, k % t, k % 1000) for k in range(i * t)]
+
+
+def values(i, t, step=1, kind=49):
+    """All of them, in order or in reverse."""
+    sides, cells = every(i, t, kind)
+    return b"".join((sides + cells)[::step])
 
 
 def square(left, most=MOST):
