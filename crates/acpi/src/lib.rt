@@ -1,5 +1,7 @@
 // What a VMM links: the calls under plain names, for C and Rust. include/acpi.h declares them.
 // Each that may refuse answers a refusal's number, 0 for none; place gets the refusal's place, or the number that was asked for.
+#![tactic(auto)]
+
 ghost use Rattle.std.specs.Prelude.{◌≡◌, ◌/◌, ◌%◌, ◌^◌, length};
 ghost use Rattle.format.specs.Bytes.{over, sum};
 ghost use Rattle.format.specs.Build.{build, built};

@@ -1,4 +1,6 @@
 // The answer to a line of text: the calls for a partner that speaks docs/CALLS.md.
+#![tactic(auto)]
+
 ghost use Rattle.std.specs.Prelude.{◌≡◌, length, replicate};
 ghost use Rattle.format.specs.Read as format;
 ghost use Rattle.text.specs.Text.{laid, listed};

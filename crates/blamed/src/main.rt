@@ -1,5 +1,7 @@
 // Prints of some recipes every place where a field begins, and its words: each kind of record once, one that is cut, one of another
 // table, and a head that names no table.
+#![tactic(auto)]
+
 use libc::STDOUT_FILENO;
 
 fn tell(recipe: &[u8], place: usize) {

@@ -1,5 +1,7 @@
 // A place of a recipe in words, for people: the field that begins there, its record, and where that begins.
 // Where the fields stand in a body is asked of the node types; what they are called stands here.
+#![tactic(auto)]
+
 ghost use Rattle.std.specs.Prelude.{◌≡◌, [], drop};
 ghost use Rattle.std.proofs.Math.Option.{some};
 ghost use Rattle.format.specs.Kind as format;
@@ -316,7 +318,7 @@ fn in_record(kind: Kind, at: usize, place: usize, out: &mut [u8], n: usize) -> u
 }
 
 // The record that holds a place: its kind, and where it begins.
-#[derive(Drop)]
+#[derive(Clone, Copy)]
 enum Held {
     By(Kind, usize),
     Nothing,

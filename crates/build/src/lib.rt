@@ -1,4 +1,6 @@
 // Builds the table of a recipe: judges all of it, tests the room, and writes record by record, as the Rust's add_* do.
+#![tactic(auto)]
+
 ghost use Rattle.std.specs.Prelude.{◌≡◌, ℕ, ◌+◌, ◌%◌, ◌≤◌, ◌<◌, List, [], length};
 ghost use Rattle.format.specs.Bytes.{le, part, over, sum as sum_of, given};
 ghost use Rattle.format.specs.Table.{hmat, front, limit};
@@ -25,7 +27,7 @@ use srat::{GenericInitiator, MemoryAffinity, RintcAffinity};
 use writes::{Change, Found, Latest, State};
 
 // The length of the table, or a refusal: without room the length that is needed, else the place in the recipe.
-#[derive(Drop)]
+#[derive(Clone, Copy)]
 pub enum Built {
     Length(usize),
     NoRoom(usize),

@@ -2,6 +2,8 @@
 // comes one that says which field it is.
 // A recipe has to be shorter than 1,114,112 bytes here, and its table may have that many; with 256 MiB of stack a recipe has to be shorter
 // than 134,217,728 bytes, and every table has room.
+#![tactic(auto)]
+
 use build::Built;
 use libc::{STDERR_FILENO, STDIN_FILENO};
 

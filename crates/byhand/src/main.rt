@@ -1,5 +1,7 @@
 // Builds four tables through the constructors and setters of the node types, as a program for the Rust crate would, without a recipe.
 // Each is shown whole, read out, and built again from that recipe: the bytes have to be the same.
+#![tactic(auto)]
+
 use cedt::{
     CxlFixedMemory, CxlHostBridge, CxlTarget, CxlVersion, InterleaveArithmetic,
     InterleaveGranularity, InterleaveWays, XorInterleaveMath, XorMap,

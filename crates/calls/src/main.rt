@@ -1,4 +1,6 @@
 // Answers calls line by line: a request on standard input, its answer on standard output (docs/CALLS.md).
+#![tactic(auto)]
+
 ghost use Rattle.std.specs.Prelude.{◌≡◌, length, take};
 ghost use Rattle.format.specs.Bytes.{pick};
 ghost use Rattle.text.specs.Text.{laid};
@@ -7,7 +9,7 @@ ghost use Rattle.answers.specs.Lines.{too_long, answer_to};
 use libc::STDIN_FILENO;
 
 // Where the program stands: bytes of the line so far, and whether there were more than there is room for.
-#[derive(Drop)]
+#[derive(Clone, Copy)]
 struct Place {
     held: usize,
     long: bool,
@@ -75,7 +77,7 @@ fn take_all(
 }
 
 // What a turn of the program leaves.
-#[derive(Drop)]
+#[derive(Clone, Copy)]
 enum Turn {
     More(Place),
     End(Place),

@@ -2,6 +2,8 @@
 // interleaving by XOR with its maps. Each has two writings: a record of the table (a target or a map a part of one), and a kind byte with a
 // body of a recipe. What a CEDT's record is, by constants, places and ranges, stands here alone.
 // What a record lists (targets, maps) lies in the table alone: a node holds the fields before it and what settles the count.
+#![tactic(auto)]
+
 ghost use Rattle.std.specs.Prelude.{◌≡◌, ◌+◌, ◌-◌, ◌*◌, ◌^◌, min, leb, length, drop};
 ghost use Rattle.format.specs.Bytes.{le, value, part, over};
 ghost use Rattle.format.specs.Layout.{as_is, fields, fixed_ok};
@@ -18,7 +20,7 @@ ghost use Rattle.cedt.specs.Cedt.{bridge_of, bridge_shown, bridge_node, window_o
 
 // ---- row 8
 
-#[derive(Drop)]
+#[derive(Clone, Copy)]
 pub enum CxlVersion {
     Cxl1_1,
     Cxl2,
@@ -45,7 +47,7 @@ impl CxlVersion {
     }
 }
 
-#[derive(Drop)]
+#[derive(Clone, Copy)]
 pub struct CxlHostBridge {
     pub host_bridge_uid: u32,
     pub cxl_version: u32,
@@ -223,7 +225,7 @@ impl CxlHostBridge {
 
 // ---- row 9
 
-#[derive(Drop)]
+#[derive(Clone, Copy)]
 pub enum InterleaveArithmetic {
     Modulo,
     ModuloXor,
@@ -240,7 +242,7 @@ impl InterleaveArithmetic {
     }
 }
 
-#[derive(Drop)]
+#[derive(Clone, Copy)]
 pub enum InterleaveGranularity {
     Granularity256b,
     Granularity512b,
@@ -270,7 +272,7 @@ impl InterleaveGranularity {
     }
 }
 
-#[derive(Drop)]
+#[derive(Clone, Copy)]
 pub enum InterleaveWays {
     Ways1,
     Ways2,
@@ -302,7 +304,7 @@ impl InterleaveWays {
 }
 
 // The specification wants the base at a multiple of 256 MiB, and the size a multiple of that times the ways; neither is tested here.
-#[derive(Drop)]
+#[derive(Clone, Copy)]
 pub struct CxlFixedMemory {
     pub base_addr: u64,
     pub size: u64,
@@ -627,7 +629,7 @@ impl CxlFixedMemory {
 }
 
 // The ACPI UID of a target of a window; where that is a host bridge, it has a record of row 8.
-#[derive(Drop)]
+#[derive(Clone, Copy)]
 pub struct CxlTarget(pub u32);
 
 impl CxlTarget {
@@ -666,7 +668,7 @@ impl CxlTarget {
 // ---- row 10
 
 // How the windows of a granularity whose arithmetic is by XOR find the target of an address.
-#[derive(Drop)]
+#[derive(Clone, Copy)]
 pub struct XorInterleaveMath {
     pub granularity: u8,
     // how many
@@ -852,7 +854,7 @@ impl XorInterleaveMath {
 }
 
 // Which bits of an address are joined by XOR into one bit of the number of its target.
-#[derive(Drop)]
+#[derive(Clone, Copy)]
 pub struct XorMap(pub u64);
 
 impl XorMap {

@@ -41,7 +41,7 @@ fn entry_width(table: &[u8], place: usize, initiators: u32, targets: u32) -> usi
 }
 
 // A matrix of a table: where it stands, how many it is about, and how wide its columns are.
-#[derive(Drop)]
+#[derive(Clone, Copy)]
 struct Grid {
     place: usize,
     initiators: u32,
@@ -51,7 +51,7 @@ struct Grid {
 }
 
 // Of a row or a column what is shown: all before `first` and all from `last` on.
-#[derive(Drop)]
+#[derive(Clone, Copy)]
 struct Ends {
     first: u32,
     last: u32,

@@ -1,4 +1,6 @@
 // What is printed of the records that speak of proximity domains, those of SRAT and of HMAT: the name of the row, and its fields.
+#![tactic(auto)]
+
 mod entries;
 mod lines;
 

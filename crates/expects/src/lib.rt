@@ -1,5 +1,7 @@
 // What was expected of a record of a table that is refused, in words for people: one line on standard error, as
 // `type 1, length 28, row 1 cache: byte 2 is 5, 0 expected`. ACPI allows more than the rows have: a record that is none of theirs may be good.
+#![tactic(auto)]
+
 mod records;
 mod references;
 

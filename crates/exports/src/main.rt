@@ -1,4 +1,6 @@
 // Calls the functions that C links by their C names, and prints what each answers: its number and the place, or the numbers of a record.
+#![tactic(auto)]
+
 use header::{Table, TableHeader};
 use libc::STDOUT_FILENO;
 use pptt::{CacheHandle, CacheNode, CacheNodeBuilder, ProcessorHandle, ProcessorNode, Resource};

@@ -1,5 +1,7 @@
 // Numbers and byte strings, laid into a buffer and read out of one, the lowest byte first.
 // Any place is allowed: what would reach past the end is left out, and what is read there counts as 0.
+#![tactic(auto)]
+
 ghost use Rattle.std.specs.Prelude.{◌≡◌, ◌+◌, ◌-◌, ◌*◌, ◌/◌, ◌%◌, ◌^◌, ◌<◌, ◌≤◌, min, length, drop, replicate};
 ghost use Rattle.format.specs.Bytes.{le, value, join, part, over, sum};
 ghost use Rattle.field.specs.Whole.{number_of, whole_of};
@@ -323,7 +325,7 @@ pub fn fill(out: &mut [u8], at: usize, n: usize, v: u8)
 
 // A whole number that may pass 64 bits: high times 256 and low. It holds the sum of every slice: each byte adds at most one to high,
 // and a slice has fewer bytes than a u64 counts.
-#[derive(Drop)]
+#[derive(Clone, Copy)]
 pub struct Whole {
     pub high: u64,
     pub low: u8,

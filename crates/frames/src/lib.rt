@@ -1,5 +1,7 @@
 // The header of a table, the frames of its records, and the references between them.
 // Any bytes are allowed: what is read past their end counts as 0.
+#![tactic(auto)]
+
 ghost use Rattle.std.specs.Prelude.{◌≡◌, ◌+◌, ◌≤◌, length, take, drop};
 ghost use Rattle.format.specs.Bytes.{value, part, given, same, unless};
 ghost use Rattle.format.specs.Layout.{fixed_ok};
@@ -13,7 +15,7 @@ use header::{Table, TableHeader};
 use marks::Mark;
 
 // What a reading call refuses, in the order of the tests.
-#[derive(Drop)]
+#[derive(Clone, Copy)]
 pub enum Refusal {
     // Under 36 bytes are lent.
     Short,
@@ -95,7 +97,7 @@ pub fn same(a: &[u8], b: &[u8]) -> bool
 // ---- the header
 
 // The table that the first four bytes spell.
-#[derive(Drop)]
+#[derive(Clone, Copy)]
 pub enum Spelled {
     Table(Table),
     Other,
@@ -152,7 +154,7 @@ fn tail_stands(t: Table, table: &[u8]) -> bool
 }
 
 // Which table it is, or what is wrong with its header.
-#[derive(Drop)]
+#[derive(Clone, Copy)]
 pub enum Judged {
     Table(Table),
     Refused(Refusal),

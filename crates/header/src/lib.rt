@@ -1,4 +1,6 @@
 // What every table has: a rolling checksum, a signature, a front, and the header of 36 bytes.
+#![tactic(auto)]
+
 ghost use Rattle.std.specs.Prelude.{◌≡◌, ℕ, ◌+◌, ◌%◌, ◌^◌, ◌<◌, length};
 ghost use Rattle.format.specs.Bytes.{le, value, part, sum, over};
 ghost use Rattle.format.specs.Layout.{lay};
@@ -21,7 +23,7 @@ pub fn limit() -> usize
 }
 
 // Keeps track of a rolling sum of bytes, modulo 256, of which value() is the checksum.
-#[derive(Drop)]
+#[derive(Clone, Copy)]
 pub struct Checksum {
     pub value: u8,
 }
@@ -80,7 +82,7 @@ impl Checksum {
 }
 
 // The tables that are built and read.
-#[derive(Drop)]
+#[derive(Clone, Copy)]
 pub enum Table {
     Pptt,
     Srat,
@@ -174,14 +176,14 @@ impl Table {
 }
 
 // What a number in a head stands for.
-#[derive(Drop)]
+#[derive(Clone, Copy)]
 pub enum Coded {
     Table(Table),
     Nothing,
 }
 
 // Standard header of the tables.
-#[derive(Drop)]
+#[derive(Clone, Copy)]
 pub struct TableHeader {
     pub signature: [u8; 4],
     pub length: u32,

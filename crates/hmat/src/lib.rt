@@ -2,6 +2,8 @@
 // their handles. Each has two writings: a record of the table (a setting or a handle a part of one), and a kind byte with a body of a recipe.
 // What an HMAT's record is, by constants, places and ranges, stands here alone.
 // What a record lists (values, cells, handles) lies in the table alone: a node holds the fields before it and the counts.
+#![tactic(auto)]
+
 ghost use Rattle.std.specs.Prelude.{◌≡◌, ◌∷◌, [], ◌+◌, ◌-◌, ◌*◌, ◌/◌, ◌^◌, min, eqb, leb, ltb, length, drop};
 ghost use Rattle.format.specs.Bytes.{le, value, part, over, bits};
 ghost use Rattle.format.specs.Layout.{as_is, fields, fixed_ok};
@@ -23,7 +25,7 @@ ghost use Rattle.hmat.specs.Settings.{value_fields, value_call, cell_fields, in_
 
 // ---- row 5
 
-#[derive(Drop)]
+#[derive(Clone, Copy)]
 pub struct MemoryProximityDomain {
     pub proximity_domain_initiator: u32,
     pub proximity_domain_memory: u32,
@@ -172,7 +174,7 @@ impl MemoryProximityDomain {
 // ---- rows 6 and 12
 
 // How wide a recipe writes the counts of a matrix and the indices of its settings: in one byte or in two.
-#[derive(Drop)]
+#[derive(Clone, Copy)]
 pub enum Width {
     Byte,
     Pair,
@@ -206,7 +208,7 @@ impl Width {
     }
 }
 
-#[derive(Drop)]
+#[derive(Clone, Copy)]
 pub enum DataType {
     // if read and write latencies are identical
     AccessLatency,
@@ -233,7 +235,7 @@ impl DataType {
     }
 }
 
-#[derive(Drop)]
+#[derive(Clone, Copy)]
 pub enum MinTransferSize {
     SizeByteAligned,
     Size64b,
@@ -270,7 +272,7 @@ impl MinTransferSize {
     }
 }
 
-#[derive(Drop)]
+#[derive(Clone, Copy)]
 pub enum LocalityType {
     Memory,
     FirstLevelCache,
@@ -292,7 +294,7 @@ impl LocalityType {
 }
 
 // The base unit of latencies is in picoseconds, that of bandwidths in MB/s.
-#[derive(Drop)]
+#[derive(Clone, Copy)]
 pub struct SystemLocality {
     pub flags: u8,
     pub data_type: u8,
@@ -767,7 +769,7 @@ impl SystemLocality {
 // ---- settings of a matrix
 
 // The value of an initiator or of a target.
-#[derive(Drop)]
+#[derive(Clone, Copy)]
 pub struct Value {
     pub idx: u16,
     pub value: u32,
@@ -874,7 +876,7 @@ impl Value {
 }
 
 // A cell, of an initiator and a target.
-#[derive(Drop)]
+#[derive(Clone, Copy)]
 pub struct Cell {
     pub initiator_idx: u16,
     pub target_idx: u16,
@@ -1033,7 +1035,7 @@ impl Cell {
 
 // ---- row 7
 
-#[derive(Drop)]
+#[derive(Clone, Copy)]
 pub enum CacheLevel {
     None,
     One,
@@ -1054,7 +1056,7 @@ impl CacheLevel {
     }
 }
 
-#[derive(Drop)]
+#[derive(Clone, Copy)]
 pub enum Associativity {
     None,
     DirectMapped,
@@ -1073,7 +1075,7 @@ impl Associativity {
     }
 }
 
-#[derive(Drop)]
+#[derive(Clone, Copy)]
 pub enum WritePolicy {
     None,
     Writeback,
@@ -1092,7 +1094,7 @@ impl WritePolicy {
     }
 }
 
-#[derive(Drop)]
+#[derive(Clone, Copy)]
 pub struct MemorySideCache {
     // should match the corresponding entry in the SRAT's memory affinity record
     pub proximity_domain: u32,
@@ -1376,7 +1378,7 @@ impl MemorySideCache {
 }
 
 // The SMBIOS handle of a side cache's component.
-#[derive(Drop)]
+#[derive(Clone, Copy)]
 pub struct SmbiosHandle(pub u16);
 
 impl SmbiosHandle {

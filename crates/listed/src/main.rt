@@ -1,4 +1,6 @@
 // Prints the lines of each table that its arguments name, under the name: stored tables against stored lines.
+#![tactic(auto)]
+
 use libc::STDOUT_FILENO;
 
 fn show(path: &[u8]) {

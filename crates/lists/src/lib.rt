@@ -1,4 +1,6 @@
 // The lines of a table: it is judged once, and then its records are shown one after the other.
+#![tactic(auto)]
+
 ghost use Rattle.std.specs.Prelude.{◌≡◌};
 ghost use Rattle.format.specs.Read.{accept};
 ghost use Rattle.format.specs.Out.{every};

@@ -1,4 +1,6 @@
 // Prints the lines of the table on standard input.
+#![tactic(auto)]
+
 fn main() {
     let mut space = io::large_buffer();
     let n = io::read_full(0, &mut space);

@@ -1,6 +1,8 @@
 // Marks: records that a pass over a PPTT has come to, so that a walk to what a reference names need not start at the first one.
 // A pass keeps them under a key, which is what its references say: a number of nodes, or a place. As many neighbouring keys share a mark
 // as a shift makes one of. That a mark is right is for the pass that keeps it to say, and marks keep it right, wherever they stand.
+#![tactic(auto)]
+
 ghost use Rattle.std.specs.Prelude.{◌≡◌, ◌-◌};
 ghost use Rattle.format.specs.Table.{pptt};
 ghost use Rattle.marks.specs.Marks.{first_mark, spread_of, kept, mark_in, noted, under, toward_node, toward_place};
@@ -18,7 +20,7 @@ pub const MOST: usize = 65536;
 pub const LONG: usize = 1048576;
 
 // A place, and how many nodes stand before it.
-#[derive(Drop)]
+#[derive(Clone, Copy)]
 pub struct Mark {
     pub nodes: u32,
     pub place: u32,

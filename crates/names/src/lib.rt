@@ -1,4 +1,6 @@
 // What the fields of a recipe's records are called. Where they stand in a body is asked of the node types; what they are called stands here.
+#![tactic(auto)]
+
 ghost use mathlib.Core.Path.{◌≡◌};
 ghost use mathlib.Core.List.{[]};
 ghost use Rattle.format.specs.Kind as format;

@@ -1,4 +1,6 @@
 // A record as numbers: its row, and its fields in the order of its layout.
+#![tactic(auto)]
+
 ghost use Rattle.std.specs.Prelude.{◌≡◌, length};
 ghost use Rattle.format.specs.Bytes.{over};
 ghost use Rattle.format.specs.Row.{matrices, row_number};

@@ -1,6 +1,8 @@
 // Writes the recipe of the table on standard input to standard output; a refusal is one line on standard error.
 // A table has to be shorter than 1,114,112 bytes here, and its recipe may have that many; with 256 MiB of stack a table has to be shorter
 // than 67,174,400 bytes, and its recipe may have 134,217,728.
+#![tactic(auto)]
+
 use libc::{STDERR_FILENO, STDIN_FILENO};
 use readout::ReadOut;
 

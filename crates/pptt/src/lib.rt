@@ -2,6 +2,8 @@
 // a record of the table, where a handle is a place, and a kind byte with a body of a recipe, where it is an ordinal.
 // What a PPTT's record is, by constants, places and ranges, stands here alone.
 // Any place of a buffer is allowed: what would reach past the end is left out, and what is read there counts as 0.
+#![tactic(auto)]
+
 ghost use Rattle.std.specs.Prelude.{◌≡◌, [], true, ◌-◌, ◌/◌, ◌≤◌, eqb, leb, length, drop, replicate};
 ghost use Rattle.std.specs.Int.Bits.{bit_or};
 ghost use Rattle.format.specs.Bytes.{pick, at, over, bits};
@@ -21,7 +23,7 @@ ghost use Rattle.pptt.specs.Cache.{cache_node, cache_shown, cache_before, made, 
 pub const LENGTH_AT: usize = 1;
 
 // The place of a processor's record, or its ordinal; a cache's never stands for it.
-#[derive(Drop)]
+#[derive(Clone, Copy)]
 pub struct ProcessorHandle(pub u32);
 
 impl ProcessorHandle {
@@ -29,7 +31,7 @@ impl ProcessorHandle {
 }
 
 // The place of a cache's record, or its ordinal.
-#[derive(Drop)]
+#[derive(Clone, Copy)]
 pub struct CacheHandle(pub u32);
 
 impl CacheHandle {
@@ -37,7 +39,7 @@ impl CacheHandle {
 }
 
 // A processor; its resources, of which only the number stands here, follow the fixed part of its record.
-#[derive(Drop)]
+#[derive(Clone, Copy)]
 pub struct ProcessorNode {
     pub flags: u32,
     pub parent: ProcessorHandle,
@@ -334,7 +336,7 @@ impl ProcessorNode {
 }
 
 // What a processor has of its own: a cache.
-#[derive(Drop)]
+#[derive(Clone, Copy)]
 pub struct Resource {
     pub cache: CacheHandle,
 }
@@ -374,7 +376,7 @@ impl Resource {
     }
 }
 
-#[derive(Drop)]
+#[derive(Clone, Copy)]
 pub enum AllocationType {
     Read,
     Write,
@@ -393,7 +395,7 @@ impl AllocationType {
     }
 }
 
-#[derive(Drop)]
+#[derive(Clone, Copy)]
 pub enum CacheType {
     Data,
     Instruction,
@@ -412,7 +414,7 @@ impl CacheType {
     }
 }
 
-#[derive(Drop)]
+#[derive(Clone, Copy)]
 pub enum WritePolicy {
     Writeback,
     Writethrough,
@@ -430,7 +432,7 @@ impl WritePolicy {
 }
 
 // Sets each field of a cache with the flag that says so.
-#[derive(Drop)]
+#[derive(Clone, Copy)]
 pub struct CacheNodeBuilder {
     next_level: CacheHandle,
     size: u32,
@@ -562,7 +564,7 @@ impl CacheNodeBuilder {
     }
 }
 
-#[derive(Drop)]
+#[derive(Clone, Copy)]
 pub struct CacheNode {
     pub flags: u32,
     pub next_level: CacheHandle,

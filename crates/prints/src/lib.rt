@@ -1,6 +1,8 @@
 // What the programs lend and write: room for a table, a recipe or a line of text, bytes to standard output, a refusal to standard error.
 // All of it is on the stack. Every stack has room for what `room` and `line` give; what has `large` in its name is made only where it is
 // needed and `has_stack` says that there is room for it.
+#![tactic(auto)]
+
 mod stack;
 
 ghost use Rattle.std.specs.Prelude.{◌≡◌, length, replicate};

@@ -1,4 +1,6 @@
 // The reader: whether a table is accepted, what its records are, and their parts of the lent bytes.
+#![tactic(auto)]
+
 ghost use Rattle.std.specs.Prelude.{◌≡◌, [], ℕ, ◌/◌, ◌≤◌, length};
 ghost use Rattle.std.proofs.Math.Option.{some};
 ghost use Rattle.format.specs.Layout.{is_good, or_none};
@@ -152,7 +154,7 @@ fn refs_stand(
 }
 
 // A record is passed, or refused.
-#[derive(Drop)]
+#[derive(Clone, Copy)]
 enum Step {
     Next(usize),
     Refused(Refusal),
@@ -179,7 +181,7 @@ fn judge(t: Table, c: &[u8], marks: &[u64], shift: u32, revision: u8, mask: u32,
 }
 
 // Whether a table is accepted: how many records it has, or what is refused first.
-#[derive(Drop)]
+#[derive(Clone, Copy)]
 pub enum Accepted {
     Records(usize),
     Refused(Refusal),
@@ -264,7 +266,7 @@ pub fn accept(table: &[u8], mask: u32) -> Accepted
 // ---- one record after the other: of an accepted table these are its records, of other bytes what a table would have there
 
 // What a record says, as the node of its row.
-#[derive(Drop)]
+#[derive(Clone, Copy)]
 pub enum Node {
     Processor(ProcessorNode),
     Cache(CacheNode),
@@ -282,7 +284,7 @@ pub enum Node {
 }
 
 // A record: its type, place and length, and its row and fields as a node.
-#[derive(Drop)]
+#[derive(Clone, Copy)]
 pub struct Shown {
     pub ty: u16,
     pub place: usize,
@@ -398,7 +400,7 @@ pub fn part_at(table: &[u8], mask: u32, place: usize) -> &[u8]
 
 // ---- the reading call
 
-#[derive(Drop)]
+#[derive(Clone, Copy)]
 pub enum Reply {
     Record { count: usize, record: Shown },
     Refused(Refusal),

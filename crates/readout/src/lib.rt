@@ -1,5 +1,7 @@
 // Reading out: the recipe of a table in its normal form, written behind its head record by record.
 // One walk measures, another writes what is measured.
+#![tactic(auto)]
+
 ghost use Rattle.std.specs.Prelude.{◌≡◌, ◌∷◌, [], ◌++◌, ℕ, ◌+◌, ◌*◌, ◌-◌, ◌/◌, ◌%◌, ◌≤◌, ◌<◌, eqb, length, replicate};
 ghost use Rattle.format.specs.Bytes.{pick, given, unless_found, value, part, over};
 ghost use Rattle.format.specs.Layout.{as_is, fld, to};
@@ -443,7 +445,7 @@ fn calls_len(row: Row, body: &[u8]) -> usize
 // ---- answers
 
 // The length of a recipe, or the place of the first unknown record, or of the first of a retired row.
-#[derive(Drop)]
+#[derive(Clone, Copy)]
 enum Measured {
     Length(usize),
     Unknown(usize),
@@ -451,7 +453,7 @@ enum Measured {
 }
 
 // What reading out answers.
-#[derive(Drop)]
+#[derive(Clone, Copy)]
 pub enum ReadOut {
     // The length of the recipe.
     Written(usize),

@@ -1,5 +1,7 @@
 // Why a recipe is refused, in words for people: one line on standard error says which record and field are meant, and what is wrong with
 // them, as `byte 42, record 3, kind 50 initiator value: index 2, the matrix has 2 initiators`.
+#![tactic(auto)]
+
 pub mod fields;
 mod references;
 pub mod said;

@@ -2,7 +2,7 @@
 use header::Table;
 use recipe::{Kind, Named};
 
-#[derive(Drop)]
+#[derive(Clone, Copy)]
 pub struct Before {
     // where the record itself begins
     pub at: usize,

@@ -1,4 +1,6 @@
 // The recipe: the kinds of its records, and the pass that judges it whole before anything is written.
+#![tactic(auto)]
+
 ghost use Rattle.std.specs.Prelude.{◌≡◌, ℕ, ◌+◌, ◌≤◌, ◌<◌, List, [], true, length, drop, eqb};
 ghost use Rattle.format.specs.Bytes.{pick, has, part};
 ghost use Rattle.format.specs.Layout.{width};
@@ -30,7 +32,7 @@ const CODE_AT: usize = 1 + TableHeader::CODE_AT;
 
 // ---- kinds
 
-#[derive(Drop)]
+#[derive(Clone, Copy)]
 pub enum Kind {
     Processor,
     Resource,
@@ -59,7 +61,7 @@ pub enum Kind {
 }
 
 // What a kind byte stands for: a kind, one that is retired, or nothing.
-#[derive(Drop)]
+#[derive(Clone, Copy)]
 pub enum Named {
     As(Kind),
     Retired,
@@ -67,7 +69,7 @@ pub enum Named {
 }
 
 // What a record names, by ordinal: 0 for none.
-#[derive(Drop)]
+#[derive(Clone, Copy)]
 pub enum Reference {
     Processor(ProcessorHandle),
     Cache(CacheHandle),
@@ -237,7 +239,7 @@ pub fn kind_of(table: Table, byte: u8) -> Named
 
 // ---- answers
 
-#[derive(Drop)]
+#[derive(Clone, Copy)]
 pub enum Refusal {
     NoHead,
     BadKind,
@@ -265,7 +267,7 @@ impl Named {
 }
 
 // The table that a recipe gives and its length, or a refusal and its place.
-#[derive(Drop)]
+#[derive(Clone, Copy)]
 pub enum Checked {
     Good(Table, usize),
     Refused(Refusal, usize),
@@ -274,7 +276,7 @@ pub enum Checked {
 // ---- the state
 
 // The newest node, if a record can join it, with its counts.
-#[derive(Drop)]
+#[derive(Clone, Copy)]
 enum Newest {
     Processor(u8),
     // how wide its counts are written, I and T
@@ -308,7 +310,7 @@ impl Newest {
 }
 
 // What the pass keeps of the nodes so far.
-#[derive(Drop)]
+#[derive(Clone, Copy)]
 struct State {
     table: Table,
     nodes: usize,
@@ -317,7 +319,7 @@ struct State {
 }
 
 // What a record does: the state with it, a refusal at its kind byte, or a bad field so many bytes behind that.
-#[derive(Drop)]
+#[derive(Clone, Copy)]
 enum Step {
     Next(State),
     Refused(Refusal),

@@ -2,6 +2,8 @@
 // words there may be more: empty lines, spaces and tabs, carriage returns, and comments, from '#' to the end of a line. A fault is one line
 // on standard error, and nothing is written then. Whether the recipe is good is not asked here.
 // A text has to be shorter than 1,114,112 bytes here, and with 256 MiB of stack shorter than 134,217,728 bytes.
+#![tactic(auto)]
+
 use cedt::XorMap;
 use header::{Coded, Table, TableHeader};
 use libc::{STDERR_FILENO, STDIN_FILENO};
@@ -356,7 +358,7 @@ fn no_kind(line: u64, table: Table, name: &[u8]) {
 // ---- records
 
 // What a line may be.
-#[derive(Drop)]
+#[derive(Clone, Copy)]
 enum Row {
     Head,
     Node(Kind),
@@ -476,7 +478,7 @@ fn kind_called(table: Table, name: &[u8], likely: u8) -> u8 {
 
 // What a pass over the text has come to: whether it writes, the table, the kind byte of the record before, and how far the room for bytes is
 // filled.
-#[derive(Drop)]
+#[derive(Clone, Copy)]
 struct State {
     writes: bool,
     table: Coded,
@@ -485,7 +487,7 @@ struct State {
 }
 
 // What a line does: the state with it, or a fault, which is told.
-#[derive(Drop)]
+#[derive(Clone, Copy)]
 enum Turn {
     Next(State),
     Fault,

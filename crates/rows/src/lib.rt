@@ -1,4 +1,6 @@
 // What a reader says of one record, by the record's bytes alone: its row, whether it is known, whether it is sound, and its list.
+#![tactic(auto)]
+
 ghost use Rattle.std.specs.Prelude.{◌≡◌};
 ghost use Rattle.std.proofs.Math.Option.{none, some};
 ghost use Rattle.format.specs.Bytes.{pick};
@@ -17,7 +19,7 @@ use pptt::{CacheNode, ProcessorNode};
 use srat::{GenericInitiator, MemoryAffinity, OldRintcAffinity, RintcAffinity};
 
 // The layout rows, in order; Unknown where none matches, or none that the reader knows.
-#[derive(Drop)]
+#[derive(Clone, Copy)]
 pub enum Row {
     Processors,
     Caches,

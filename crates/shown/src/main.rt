@@ -1,5 +1,7 @@
 // Prints all that each of the stored tables says, under its name: those of the demonstration, others with every field, refused
 // ones, and matrices of which only the ends are shown.
+#![tactic(auto)]
+
 use libc::STDOUT_FILENO;
 
 // A table under its name.

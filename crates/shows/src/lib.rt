@@ -1,4 +1,6 @@
 // All that a table says, in words: it is judged once, and then its header and each record are printed, field by field.
+#![tactic(auto)]
+
 ghost use Rattle.std.specs.Prelude.{◌+◌, ◌^◌, ◌<◌};
 
 mod nodes;

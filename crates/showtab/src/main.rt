@@ -1,6 +1,8 @@
 // Prints all that the table on standard input says; of a matrix with many initiators or targets the first and the last, or with the
 // argument --all each. Bytes from the 1,114,112th on are not read, or with 256 MiB of stack those from the 67,174,400th on: a table that
 // needs them is refused for its length.
+#![tactic(auto)]
+
 use libc::STDIN_FILENO;
 
 // Whether the first argument asks for all.

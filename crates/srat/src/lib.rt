@@ -1,5 +1,7 @@
 // The nodes of SRAT, the table that defines proximity domains, each with its two writings: a record of the table, and a kind byte with a
 // body of a recipe. What an SRAT's record is, by constants, places and ranges, stands here alone.
+#![tactic(auto)]
+
 ghost use Rattle.std.specs.Prelude.{◌≡◌, ◌∷◌, [], ◌%◌, length, drop, eqb, leb};
 ghost use Rattle.format.specs.Bytes.{value, part, over};
 ghost use Rattle.format.specs.Layout.{two, number, as_is, fields, fixed_ok};
@@ -12,7 +14,7 @@ ghost use Rattle.format.specs.Row.{initiators, form_in};
 ghost use Rattle.format.specs.Read.{sound};
 ghost use Rattle.srat.specs.Srat.{handle_fixed, rintc_fixed, handle_bad, flags_place, memory_node, initiator_node, rintc_node, old_rintc_node, memory_shown, initiator_shown, rintc_shown, old_rintc_shown, memory_of, memory_with, initiator_of, initiator_with, rintc_of, rintc_with};
 
-#[derive(Drop)]
+#[derive(Clone, Copy)]
 pub struct MemoryAffinity {
     pub proximity_domain: u32,
     pub base_address: u64,
@@ -208,7 +210,7 @@ impl MemoryAffinity {
 }
 
 // Which device an initiator is. An enum holds no arrays here: hid and uid are the numbers that their bytes stand for.
-#[derive(Drop)]
+#[derive(Clone, Copy)]
 pub enum Handle {
     Acpi {
         hid: u64,
@@ -316,7 +318,7 @@ impl Handle {
     }
 }
 
-#[derive(Drop)]
+#[derive(Clone, Copy)]
 pub struct GenericInitiator {
     pub proximity_domain: u32,
     pub handle: Handle,
@@ -686,7 +688,7 @@ impl GenericInitiator {
     }
 }
 
-#[derive(Drop)]
+#[derive(Clone, Copy)]
 pub struct RintcAffinity {
     pub proximity_domain: u32,
     pub acpi_processor_uid: u32,
@@ -856,7 +858,7 @@ impl RintcAffinity {
 }
 
 // The record without its domain, as it was before ACPI gave it one: it is read, but neither built nor read out.
-#[derive(Drop)]
+#[derive(Clone, Copy)]
 pub struct OldRintcAffinity {
     pub acpi_processor_uid: u32,
     pub flags: u32,

@@ -1,4 +1,6 @@
 // What is printed of the sum of some bytes, a table's or any others: the sum, what is left of it modulo 256, and whether the checksum is right.
+#![tactic(auto)]
+
 ghost use Rattle.std.specs.Prelude.{◌≡◌};
 ghost use Rattle.text.specs.Text.{laid};
 ghost use Rattle.sums.specs.Lines.{entire, verdict, behind_line, checked, lines_of};

@@ -1,5 +1,7 @@
 // Prints the whole sum of the bytes on standard input, what is left of it modulo 256, and whether the checksum of the table is right.
 // There have to be fewer than 1,114,112 bytes, or with 256 MiB of stack fewer than 67,174,400.
+#![tactic(auto)]
+
 use libc::{STDERR_FILENO, STDIN_FILENO};
 
 fn show(table: &[u8]) {

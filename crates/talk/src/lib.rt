@@ -1,4 +1,6 @@
 // Requests as text: words, decimal numbers, bytes as hexadecimal digits. Any function takes any bytes.
+#![tactic(auto)]
+
 ghost use Rattle.std.specs.Prelude.{◌≡◌, ◌≤◌, length};
 ghost use Rattle.format.specs.Bytes.{over};
 ghost use Rattle.talk.specs.Words.{space_in, word_in, behind_in, call_in};
@@ -37,7 +39,7 @@ pub fn behind(text: &[u8]) -> &[u8]
 }
 
 // The calls.
-#[derive(Drop)]
+#[derive(Clone, Copy)]
 pub enum Call {
     Build,
     Out,
@@ -67,7 +69,7 @@ pub fn named(name: &[u8]) -> Call
 
 // ---- decimal numbers
 
-#[derive(Drop)]
+#[derive(Clone, Copy)]
 pub enum Number {
     Value(u64),
     Other,
@@ -148,7 +150,7 @@ fn all_hex(text: &[u8]) -> bool
 }
 
 // How many bytes a word stands for.
-#[derive(Drop)]
+#[derive(Clone, Copy)]
 pub enum Data {
     Count(usize),
     TooLong,

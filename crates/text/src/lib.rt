@@ -1,5 +1,7 @@
 // Text laid into a lent buffer: each function puts some behind the n bytes that the buffer is filled with and answers how far it is
 // filled then. What would reach past the end is left out.
+#![tactic(auto)]
+
 ghost use Rattle.std.specs.Prelude.{◌≡◌, [], ◌∷◌, ◌/◌};
 ghost use Rattle.format.specs.Listing.{digits, spaced, refused_words, sum_words};
 ghost use Rattle.field.specs.Whole.{number_of};

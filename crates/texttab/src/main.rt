@@ -2,6 +2,8 @@
 // Of a recipe that is refused it writes the records before the one at fault; the refusal is a line on standard error, behind which comes one
 // that says why.
 // A recipe has to be shorter than 1,114,112 bytes here, and with 256 MiB of stack shorter than 134,217,728 bytes.
+#![tactic(auto)]
+
 use build::Built;
 use header::{Coded, Table, TableHeader};
 use libc::{STDERR_FILENO, STDIN_FILENO};
@@ -110,7 +112,7 @@ fn value(out: &mut [u8], n: usize, name: &[u8], bytes: &[u8]) -> usize {
 // ---- records
 
 // What a line may be.
-#[derive(Drop)]
+#[derive(Clone, Copy)]
 enum Row {
     Head,
     Node(Kind),

@@ -1,4 +1,6 @@
 // What the records of a recipe are called.
+#![tactic(auto)]
+
 ghost use mathlib.Core.Path.{◌≡◌};
 ghost use Rattle.recipe.specs.Kinds.{meant_kind};
 ghost use Rattle.text.specs.Text.{laid};

@@ -1,5 +1,7 @@
 // Makes the round trip of each stored recipe and table that its arguments name, and prints a line for each:
 // name, length of the table, length of the recipe that is read out, and how the trip ended.
+#![tactic(auto)]
+
 use libc::STDOUT_FILENO;
 
 fn number(n: u64) {

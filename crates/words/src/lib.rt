@@ -1,4 +1,6 @@
 // Words and numbers on standard output; a field is a line of its own.
+#![tactic(auto)]
+
 ghost use Rattle.std.specs.Prelude.{true, ◌≡◌, eqb};
 ghost use Rattle.std.specs.Int.Bits.{bit_and};
 ghost use Rattle.format.specs.Bytes.{pick};

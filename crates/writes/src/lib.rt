@@ -1,5 +1,7 @@
 // What one record of a recipe does to the table that the records before it made: which of its bytes change, how many come at its end, which
 // record is the newest then, and what is written there. `build` goes from record to record by it, and has found what a record names.
+#![tactic(auto)]
+
 ghost use Rattle.std.specs.Prelude.{◌≡◌, ℕ, List};
 ghost use Rattle.format.specs.Bytes.{at as at_byte, le, over};
 ghost use Rattle.format.specs.Layout.{fields};
@@ -19,7 +21,7 @@ use recipe::Kind;
 use srat::{GenericInitiator, MemoryAffinity, RintcAffinity};
 
 // The newest record: how many there are with it, its place, how many items its list has, a matrix's I and T.
-#[derive(Drop)]
+#[derive(Clone, Copy)]
 pub struct Latest {
     pub nodes: u32,
     pub place: usize,
@@ -29,14 +31,14 @@ pub struct Latest {
 }
 
 // The place of the record that a record names: a processor's, or a cache's.
-#[derive(Drop)]
+#[derive(Clone, Copy)]
 pub struct Found {
     pub processor: ProcessorHandle,
     pub cache: CacheHandle,
 }
 
 // Where the pass stands: the next record of the recipe, the end of the table, its newest record, and the sum of its bytes.
-#[derive(Drop)]
+#[derive(Clone, Copy)]
 pub struct State {
     pub at: usize,
     pub end: usize,
@@ -45,7 +47,7 @@ pub struct State {
 }
 
 // What a record does to the table: so many bytes from a place on change, and so many more come at the end.
-#[derive(Drop)]
+#[derive(Clone, Copy)]
 pub struct Change {
     pub from: usize,
     pub len: usize,

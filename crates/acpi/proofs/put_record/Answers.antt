@@ -1,0 +1,8 @@
+-- `put_record` meets its contract: six numbers, and the fields behind them.
+use borrow.Author.Rules.{rules}
+use Rattle.acpi.proofs.Records.{record-laid}
+use Rattle.acpi.proofs.put_record.Goals as goal
+
+pub returns : goal.returns
+returns c =
+    record-laid _ _ _ _ _ _ _ _ _ _ _ c.row_number.ensures c.copy_u64.ensures c.put_fields.ensures

@@ -1,0 +1,13 @@
+-- `total` meets its contract: the words of the sum, and the line's end behind them; a sum's parts make the sum.
+use mathlib.Core.Path.{◌∙◌}
+use borrow.Author.Rules.{rules}
+use Rattle.text.proofs.Laws.{laid_next}
+use Rattle.field.proofs.Parts.{whole-number}
+use Rattle.answers.specs.Lines.{total}
+use Rattle.answers.proofs.total.Goals as goal
+
+pub returns : goal.returns
+unfolding total
+returns c =
+    let a = c.args in
+    laid_next a.text.now 0 _ _ c.summed-n.ensures c.byte.ensures ∙ rw (c.u8sum.ensures, whole-number)

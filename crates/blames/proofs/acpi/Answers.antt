@@ -1,0 +1,26 @@
+-- `acpi` meets its contract: the fields of an initiator with an ACPI handle begin where the widths before them end.
+use mathlib.Core.Path.{◌∙◌}
+use borrow.Author.Rules.{rules}
+use borrow.Author.Tests.{ne_eqb}
+use Rattle.format.specs.Kind.{body}
+use Rattle.blames.specs.Words.{record_name, field_names, name_at, of_the, field_of}
+use Rattle.blames.proofs.acpi.Goals as goal
+
+pub returns-in-0 : goal.returns-in-0
+returns-in-0 c = c.bytes.ensures ∙ rw c.in-0.is
+
+pub returns-in-4 : goal.returns-in-4
+returns-in-4 c = c.bytes-in-4.ensures ∙ rw c.in-4.is
+
+pub returns-in-12 : goal.returns-in-12
+returns-in-12 c = c.bytes-in-12.ensures ∙ rw c.in-12.is
+
+pub returns-in-16 : goal.returns-in-16
+returns-in-16 c = c.bytes-in-16.ensures ∙ rw c.in-16.is
+
+-- no field
+pub returns-in_default : goal.returns-in_default
+unfolding field_of of_the name_at field_names record_name body
+returns-in_default c =
+    let o = c.in_default.in_default-own.rest in
+    c.nothing.ensures ∙ rw (ne_eqb _ 0 o.0.0.0.1, ne_eqb _ 4 o.0.0.1, ne_eqb _ 12 o.0.1, ne_eqb _ 16 o.1)

@@ -1,0 +1,8 @@
+-- `CxlFixedMemory::add_target` meets its contract: one number at its place.
+use native.Mathlib.Omega.{arith}
+use borrow.Author.Rules.{rules}
+use Rattle.laws.proofs.Over.{over-at}
+use Rattle.cedt.proofs.CxlFixedMemory.add_target.Goals as goal
+
+pub returns : goal.returns
+returns c = over-at _ _ _ _ _ _ c.put_u32.ensures c.target_place-place.ensures (omega arith)

@@ -1,0 +1,7 @@
+-- `CxlFixedMemory::fits` meets its contract: one comparison.
+use mathlib.Core.Path.{refl}
+use Rattle.format.specs.Row.{column}
+use Rattle.cedt.proofs.CxlFixedMemory.fits.Goals as goal
+
+pub returns : goal.returns
+returns c = refl

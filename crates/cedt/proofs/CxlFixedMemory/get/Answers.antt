@@ -1,0 +1,11 @@
+-- `CxlFixedMemory::get` meets its contract: the layout read by places.
+use borrow.Author.Rules.{rules}
+use Rattle.format.specs.Form.{layout}
+use Rattle.format.specs.Row.{form_in}
+use Rattle.laws.proofs.Offsets.{node_at_lem}
+use Rattle.cedt.proofs.CxlFixedMemory.get.Goals as goal
+
+pub returns : goal.returns
+unfolding layout form_in
+returns c =
+    rw (node_at_lem, c.get_u64.ensures, c.get_u64-2.ensures, c.get_u8.ensures, c.get_u8-2.ensures, c.get_u32.ensures, c.get_u16.ensures, c.get_u16-2.ensures, c.rest-s.ensures)

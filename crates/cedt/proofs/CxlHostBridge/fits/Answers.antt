@@ -1,0 +1,7 @@
+-- `CxlHostBridge::fits` meets its contract: one comparison.
+use mathlib.Core.Path.{refl}
+use Rattle.format.specs.Row.{column}
+use Rattle.cedt.proofs.CxlHostBridge.fits.Goals as goal
+
+pub returns : goal.returns
+returns c = refl

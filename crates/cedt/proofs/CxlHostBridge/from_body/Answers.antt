@@ -1,0 +1,9 @@
+-- `CxlHostBridge::from_body` meets its contract: each field stands at its offset.
+use borrow.Author.Rules.{rules}
+use Rattle.format.specs.Kind.{Bridge, body}
+use Rattle.laws.proofs.Fields.{fields-now}
+use Rattle.cedt.proofs.CxlHostBridge.from_body.Goals as goal
+
+pub returns : goal.returns
+unfolding body
+returns c = rw (fields-now Bridge, c.get_u32.ensures, c.get_u8.ensures, c.get_u64.ensures)

@@ -1,0 +1,16 @@
+-- `CxlHostBridge::registers` meets its contract: each version has the registers of its number.
+use mathlib.Core.Path.{sym, ◌∙◌}
+use borrow.Author.Rules.{rules}
+use borrow.Author.Tests.{eq-eqb, ne_eqb}
+use Rattle.format.specs.Form.{registers}
+use Rattle.cedt.proofs.CxlHostBridge.registers.Goals as goal
+
+pub returns-then-self-number : goal.returns-then-self-number
+unfolding registers
+returns-then-self-number c =
+    rw (c.len.ensures, eq-eqb _ 0 (c.if-self-number.true ∙ c.number.ensures))
+
+pub returns : goal.returns
+unfolding registers
+returns c =
+    rw (c.len-2.ensures, ne_eqb _ 0 (λ e. c.if-self-number.false (e ∙ sym c.number.ensures)))

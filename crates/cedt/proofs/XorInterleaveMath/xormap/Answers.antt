@@ -1,0 +1,8 @@
+-- `XorInterleaveMath::xormap` meets its contract: the number at its place.
+use native.Mathlib.Omega.{arith}
+use borrow.Author.Rules.{rules}
+use Rattle.laws.proofs.Over.{value-at}
+use Rattle.cedt.proofs.XorInterleaveMath.xormap.Goals as goal
+
+pub returns : goal.returns
+returns c = value-at _ _ _ _ _ _ c.get_u64.ensures c.map_place.ensures (omega arith)

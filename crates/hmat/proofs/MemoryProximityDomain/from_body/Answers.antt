@@ -1,0 +1,9 @@
+-- `MemoryProximityDomain::from_body` meets its contract: each field stands at its offset.
+use borrow.Author.Rules.{rules}
+use Rattle.format.specs.Kind.{Domain, body}
+use Rattle.laws.proofs.Fields.{body_at}
+use Rattle.hmat.proofs.MemoryProximityDomain.from_body.Goals as goal
+
+pub returns : goal.returns
+unfolding body
+returns c = rw (body_at Domain, c.get_u32.ensures, c.get_u32-2.ensures)

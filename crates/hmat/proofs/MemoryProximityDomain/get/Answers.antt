@@ -1,0 +1,9 @@
+-- `MemoryProximityDomain::get` meets its contract: the layout read by places.
+use borrow.Author.Rules.{rules}
+use Rattle.format.specs.Form.{layout}
+use Rattle.laws.proofs.Offsets.{node_at_lem}
+use Rattle.hmat.proofs.MemoryProximityDomain.get.Goals as goal
+
+pub returns : goal.returns
+unfolding layout
+returns c = rw (node_at_lem, c.get_u32.ensures, c.get_u32-2.ensures, c.rest-s.ensures)

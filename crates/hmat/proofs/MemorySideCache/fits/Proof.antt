@@ -1,9 +1,0 @@
--- `MemorySideCache::fits` meets its contract: one comparison.
-use mathlib.Core.Path.{refl}
-use Rattle.format.specs.Row.{column}
-use Rattle.hmat.proofs.MemorySideCache.fits.Statement.{statement}
-use Rattle.hmat.proofs.MemorySideCache.fits.Tie as tie
-
-pub fits-spec : {M : Type 1} → statement M
-unfolding column
-fits-spec = tie.close (tie.spec (λ c. refl))

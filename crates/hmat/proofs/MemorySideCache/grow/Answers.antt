@@ -1,0 +1,19 @@
+-- `MemorySideCache::grow` meets its contract: three numbers, each at its place.
+use mathlib.Core.Path.{◌≡◌}
+use Prim.Native.Nat.{◌+◌, ◌%◌}
+use native.Mathlib.Omega.{arith}
+use borrow.Author.Rules.{rules}
+use Rattle.format.specs.Bytes.{le}
+use Rattle.laws.proofs.Bytes.{le-mod}
+use Rattle.hmat.specs.Hmat.{grown}
+use Rattle.laws.proofs.Over.{over-at}
+use Rattle.hmat.proofs.MemorySideCache.grow.Goals as goal
+
+pub returns : goal.returns
+unfolding grown
+returns c =
+    let s = c.args in
+    let one = over-at _ (s.at + 4) _ _ _ _ c.put_u32.ensures c.behind.ensures (omega arith) in
+    let two = over-at _ (s.at + 30) _ _ _ _ c.put_u16.ensures c.behind-2.ensures (omega arith) in
+    let n : le 2 ((s.n + 1) % 65536) ≡ le 2 (s.n + 1) = le-mod 2 (s.n + 1) in
+    rw (c.put_handle.ensures, two, one, n)

@@ -1,0 +1,8 @@
+-- `SystemLocality::target_value` meets its contract: the number at its place.
+use native.Mathlib.Omega.{arith}
+use borrow.Author.Rules.{rules}
+use Rattle.laws.proofs.Over.{value-at}
+use Rattle.hmat.proofs.SystemLocality.target_value.Goals as goal
+
+pub returns : goal.returns
+returns c = value-at _ _ _ _ _ _ c.get_u32.ensures c.target_place.ensures (omega arith)

@@ -1,0 +1,15 @@
+-- `spread` meets its contract: the shifts that the loop has still to try are those that the definition has, by one clause a turn.
+use mathlib.Core.Path.{◌≡◌, refl, sym, ◌∙◌}
+use Prim.Native.Nat.{ℕ, zero, suc, ◌+◌, ◌-◌, ◌/◌, ◌^◌, ◌≤◌, ◌<◌}
+use native.Mathlib.Numerals.{add-one}
+use native.Mathlib.Omega.{arith}
+use borrow.Author.Rules.{rules}
+use borrow.Author.Tests.{le-ltb, lt-ltb}
+use Rattle.marks.specs.Marks.{spread_of}
+use Rattle.marks.proofs.spread.Given as goal
+
+abbrev pub invariant-loop-shift : goal.invariant-loop-shift
+invariant-loop-shift l = (left : ℕ) × (left + l.shift ≡ 63) × (spread_of 63 0 (l.n - 1) l.count ≡ spread_of left l.shift l.last l.count)
+
+abbrev pub decreases-loop-shift : goal.decreases-loop-shift
+decreases-loop-shift l = 63 - l.shift

@@ -1,0 +1,17 @@
+-- `CacheNode::is_fixed` meets its contract, test by test.
+use borrow.Author.Rules.{rules}
+use Rattle.format.specs.Form.{layout}
+use Rattle.laws.proofs.Tests.{both_right, both_false}
+use Rattle.laws.proofs.Fields.{fixed-now, differs, equals}
+use Rattle.pptt.proofs.CacheNode.is_fixed.Goals as goal
+
+pub returns-then-get_u8-ne-TYPE : goal.returns-then-get_u8-ne-TYPE
+returns-then-get_u8-ne-TYPE c = rw (fixed-now, differs c.get_u8.ensures c.if-get_u8-ne-TYPE.true)
+
+pub returns-then-get_u8-ne-LEN : goal.returns-then-get_u8-ne-LEN
+returns-then-get_u8-ne-LEN c = simp (fixed-now, differs c.get_u8-2.ensures c.if-get_u8-ne-LEN.true, both_false)
+
+pub returns : goal.returns
+unfolding layout
+returns c =
+    rw (fixed-now, equals c.get_u8.ensures c.if-get_u8-ne-TYPE.false, equals c.get_u8-2.ensures c.if-get_u8-ne-LEN.false, c.get_u16.ensures, both_right)

@@ -1,0 +1,6 @@
+-- `ProcessorNode::resource` meets its contract: read from the place on.
+use borrow.Author.Rules.{rules}
+use Rattle.pptt.proofs.ProcessorNode.resource.Goals as goal
+
+pub returns : goal.returns
+returns c = cc

@@ -1,0 +1,11 @@
+-- `Resource::put_body` meets its contract: the numbers that it writes are those of the call.
+use mathlib.Core.Path.{sym}
+use borrow.Author.Rules.{rules}
+use Rattle.format.specs.Layout.{width}
+use Rattle.format.specs.Kind.{Resource, body}
+use Rattle.laws.proofs.Fields.{call-join, length-call}
+use Rattle.pptt.proofs.Resource.put_body.Goals as goal
+
+pub returns : goal.returns
+unfolding body width
+returns c = record { out_after = rw (call-join Resource) c.put_all.ensures; value = sym (length-call Resource _) }

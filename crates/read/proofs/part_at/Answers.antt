@@ -1,0 +1,18 @@
+-- `part_at` meets its contract: the part of what is seen at the place, of the table that is signed.
+use mathlib.Core.Path.{ap, ◌∙◌}
+use borrow.Author.Rules.{rules}
+use Rattle.format.specs.Read.{Seen, part_of}
+use Rattle.read.proofs.Listing.{seen-signed, seen-unsigned}
+use Rattle.read.proofs.part_at.Goals as goal
+
+pub returns-in-Table : goal.returns-in-Table
+returns-in-Table c =
+    let a = c.args in
+    let seen = seen-signed a.table.now a.mask a.place _ _ _ (rw c.in-Table.is at c.signed.ensures) c.revision_in.ensures c.body_at-body.ensures in
+    c.part.ensures ∙ rw (c.known.ensures, c.row_of-row.ensures) (ap (λ (x : Seen). part_of x.row x.body) seen)
+
+pub returns-in-Other : goal.returns-in-Other
+unfolding part_of
+returns-in-Other c =
+    let a = c.args in
+    ap (λ (x : Seen). part_of x.row x.body) (seen-unsigned a.table.now a.mask a.place _ (rw c.in-Other.is at c.signed.ensures) c.body_at-body.ensures)

@@ -1,0 +1,15 @@
+-- `place_of` meets its contract. The invariant: as many records are left to pass from here as there were from the first place on.
+use mathlib.Core.Path.{◌≡◌, sym, ap, ◌∙◌}
+use Prim.Native.Nat.{◌≤◌, max}
+use native.Mathlib.Omega.{arith}
+use borrow.Author.Rules.{rules}
+use lib.ListN.{length}
+use Rattle.read.specs.Places.{first_place, behind}
+use Rattle.read.proofs.Listing.{first-low, body-room, behind-next, behind-end}
+use Rattle.read.proofs.place_of.Given as goal
+
+abbrev pub invariant-loop-left : goal.invariant-loop-left
+invariant-loop-left l = (l.p ≤ max 48 (length l.table)) × (behind l.table l.n (first_place l.table) ≡ behind l.table l.left l.p)
+
+abbrev pub decreases-loop-left : goal.decreases-loop-left
+decreases-loop-left l = l.left

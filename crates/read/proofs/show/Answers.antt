@@ -1,0 +1,14 @@
+-- `show` meets its contract: type, length, row and fields of the record's bytes.
+use borrow.Author.Rules.{rules}
+use Rattle.header.specs.Header.{meant}
+use Rattle.read.proofs.Fields.{known-fits}
+use Rattle.read.proofs.show.Goals as goal
+
+pub node_in-requires : goal.node_in-requires
+node_in-requires c =
+    let a = c.args in
+    rw (c.known.ensures, c.row_of-row.ensures) (known-fits (meant a.t) a.revision a.mask _ _)
+
+pub returns : goal.returns
+returns c count =
+    rw (c.Node-in.ensures.0, c.Node-in.ensures.1, c.known.ensures, c.row_of-row.ensures, c.type_in.ensures)

@@ -1,0 +1,12 @@
+-- `GenericInitiator::put_acpi_body` meets its contract: the numbers that it writes are those of the call.
+use mathlib.Core.Path.{sym}
+use borrow.Author.Rules.{rules}
+use Rattle.format.specs.Layout.{width}
+use Rattle.format.specs.Kind.{Acpi, body}
+use Rattle.format.specs.Normal.{calls}
+use Rattle.laws.proofs.Fields.{call-join, length-call}
+use Rattle.srat.proofs.GenericInitiator.put_acpi_body.Goals as goal
+
+pub returns : goal.returns
+unfolding calls body width
+returns c = record { out_after = rw (call-join Acpi) c.put_all.ensures; value = sym (length-call Acpi _) }

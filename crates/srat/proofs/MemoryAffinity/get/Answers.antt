@@ -1,0 +1,10 @@
+-- `MemoryAffinity::get` meets its contract: each field stands at its offset.
+use borrow.Author.Rules.{rules}
+use Rattle.format.specs.Form.{layout}
+use Rattle.laws.proofs.Offsets.{node_at_lem}
+use Rattle.srat.proofs.MemoryAffinity.get.Goals as goal
+
+pub returns : goal.returns
+unfolding layout
+returns c =
+    rw (node_at_lem, c.get_u32.ensures, c.get_u64.ensures, c.get_u64-2.ensures, c.get_u32-2.ensures, c.rest-s.ensures)

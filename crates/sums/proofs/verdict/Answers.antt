@@ -1,0 +1,10 @@
+-- `verdict` meets its contract: the words for each way.
+use mathlib.Core.Path.{◌∙◌}
+use borrow.Author.Rules.{rules}
+use Rattle.sums.proofs.verdict.Goals as goal
+
+pub returns-then-right : goal.returns-then-right
+returns-then-right c = c.bytes.ensures ∙ rw c.if-right.true
+
+pub returns : goal.returns
+returns c = c.bytes-2.ensures ∙ rw c.if-right.false

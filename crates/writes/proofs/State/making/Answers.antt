@@ -1,0 +1,6 @@
+-- `State::making` meets its contract: the newest record is one more.
+use borrow.Author.Rules.{rules}
+use Rattle.writes.proofs.State.making.Goals as goal
+
+pub returns : goal.returns
+returns c = rw c.next.ensures
