@@ -7,15 +7,19 @@ use Rattle.blames.specs.Words.{record_name, field_names, name_at, of_the, field_
 use Rattle.blames.proofs.acpi.Goals as goal
 
 pub returns-in-0 : goal.returns-in-0
+unfolding field_of of_the name_at field_names record_name body
 returns-in-0 c = c.bytes.ensures ∙ rw c.in-0.is
 
 pub returns-in-4 : goal.returns-in-4
+unfolding field_of of_the name_at field_names record_name body
 returns-in-4 c = c.bytes-in-4.ensures ∙ rw c.in-4.is
 
 pub returns-in-12 : goal.returns-in-12
+unfolding field_of of_the name_at field_names record_name body
 returns-in-12 c = c.bytes-in-12.ensures ∙ rw c.in-12.is
 
 pub returns-in-16 : goal.returns-in-16
+unfolding field_of of_the name_at field_names record_name body
 returns-in-16 c = c.bytes-in-16.ensures ∙ rw c.in-16.is
 
 -- no field

@@ -7,27 +7,35 @@ use Rattle.blames.specs.Words.{record_name, field_names, name_at, of_the, field_
 use Rattle.blames.proofs.cache.Goals as goal
 
 pub returns-in-0 : goal.returns-in-0
+unfolding field_of of_the name_at field_names record_name body
 returns-in-0 c = c.bytes.ensures ∙ rw c.in-0.is
 
 pub returns-in-1 : goal.returns-in-1
+unfolding field_of of_the name_at field_names record_name body
 returns-in-1 c = c.bytes-in-1.ensures ∙ rw c.in-1.is
 
 pub returns-in-5 : goal.returns-in-5
+unfolding field_of of_the name_at field_names record_name body
 returns-in-5 c = c.bytes-in-5.ensures ∙ rw c.in-5.is
 
 pub returns-in-9 : goal.returns-in-9
+unfolding field_of of_the name_at field_names record_name body
 returns-in-9 c = c.bytes-in-9.ensures ∙ rw c.in-9.is
 
 pub returns-in-13 : goal.returns-in-13
+unfolding field_of of_the name_at field_names record_name body
 returns-in-13 c = c.bytes-in-13.ensures ∙ rw c.in-13.is
 
 pub returns-in-14 : goal.returns-in-14
+unfolding field_of of_the name_at field_names record_name body
 returns-in-14 c = c.bytes-in-14.ensures ∙ rw c.in-14.is
 
 pub returns-in-15 : goal.returns-in-15
+unfolding field_of of_the name_at field_names record_name body
 returns-in-15 c = c.bytes-in-15.ensures ∙ rw c.in-15.is
 
 pub returns-in-17 : goal.returns-in-17
+unfolding field_of of_the name_at field_names record_name body
 returns-in-17 c = c.bytes-in-17.ensures ∙ rw c.in-17.is
 
 -- no field

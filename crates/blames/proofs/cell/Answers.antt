@@ -10,6 +10,7 @@ use Rattle.blames.proofs.Widths.{cell-target, cell-value, cell-none}
 use Rattle.blames.proofs.cell.Goals as goal
 
 pub returns-then-at-eq-INITIATOR_AT : goal.returns-then-at-eq-INITIATOR_AT
+unfolding field_of of_the name_at field_names record_name body
 returns-then-at-eq-INITIATOR_AT c = c.bytes.ensures ∙ rw c.if-at-eq-INITIATOR_AT.true
 
 pub returns-then-at-target_at : goal.returns-then-at-target_at

@@ -7,9 +7,11 @@ use Rattle.blames.specs.Words.{record_name, field_names, name_at, of_the, field_
 use Rattle.blames.proofs.domain.Goals as goal
 
 pub returns-in-0 : goal.returns-in-0
+unfolding field_of of_the name_at field_names record_name body
 returns-in-0 c = c.bytes.ensures ∙ rw c.in-0.is
 
 pub returns-in-4 : goal.returns-in-4
+unfolding field_of of_the name_at field_names record_name body
 returns-in-4 c = c.bytes-in-4.ensures ∙ rw c.in-4.is
 
 -- no field

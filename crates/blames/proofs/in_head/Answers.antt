@@ -7,7 +7,9 @@ use Rattle.blames.specs.Words.{of_the, words, head_words}
 use Rattle.blames.proofs.in_head.Goals as goal
 
 pub returns-then-place : goal.returns-then-place
+unfolding head_words words of_the digits
 returns-then-place c = c.nothing.ensures ∙ rw (ne_eqb _ 1 c.if-place.true)
 
 pub returns : goal.returns
+unfolding head_words words of_the digits
 returns c = c.bytes.ensures ∙ rw c.if-place.false

@@ -7,21 +7,27 @@ use Rattle.blames.specs.Words.{record_name, field_names, name_at, of_the, field_
 use Rattle.blames.proofs.pci.Goals as goal
 
 pub returns-in-0 : goal.returns-in-0
+unfolding field_of of_the name_at field_names record_name body
 returns-in-0 c = c.bytes.ensures ∙ rw c.in-0.is
 
 pub returns-in-4 : goal.returns-in-4
+unfolding field_of of_the name_at field_names record_name body
 returns-in-4 c = c.bytes-in-4.ensures ∙ rw c.in-4.is
 
 pub returns-in-6 : goal.returns-in-6
+unfolding field_of of_the name_at field_names record_name body
 returns-in-6 c = c.bytes-in-6.ensures ∙ rw c.in-6.is
 
 pub returns-in-7 : goal.returns-in-7
+unfolding field_of of_the name_at field_names record_name body
 returns-in-7 c = c.bytes-in-7.ensures ∙ rw c.in-7.is
 
 pub returns-in-8 : goal.returns-in-8
+unfolding field_of of_the name_at field_names record_name body
 returns-in-8 c = c.bytes-in-8.ensures ∙ rw c.in-8.is
 
 pub returns-in-9 : goal.returns-in-9
+unfolding field_of of_the name_at field_names record_name body
 returns-in-9 c = c.bytes-in-9.ensures ∙ rw c.in-9.is
 
 -- no field

@@ -8,6 +8,7 @@ use Rattle.blames.proofs.Widths.{target-value, target_none}
 use Rattle.blames.proofs.target.Goals as goal
 
 pub returns-then-at-eq-INDEX_AT : goal.returns-then-at-eq-INDEX_AT
+unfolding field_of of_the name_at field_names record_name body
 returns-then-at-eq-INDEX_AT c = c.bytes.ensures ∙ rw c.if-at-eq-INDEX_AT.true
 
 pub returns-then-at-value_at : goal.returns-then-at-value_at

@@ -7,24 +7,31 @@ use Rattle.blames.specs.Words.{record_name, field_names, name_at, of_the, field_
 use Rattle.blames.proofs.window.Goals as goal
 
 pub returns-in-0 : goal.returns-in-0
+unfolding field_of of_the name_at field_names record_name body
 returns-in-0 c = c.bytes.ensures ∙ rw c.in-0.is
 
 pub returns-in-8 : goal.returns-in-8
+unfolding field_of of_the name_at field_names record_name body
 returns-in-8 c = c.bytes-in-8.ensures ∙ rw c.in-8.is
 
 pub returns-in-16 : goal.returns-in-16
+unfolding field_of of_the name_at field_names record_name body
 returns-in-16 c = c.bytes-in-16.ensures ∙ rw c.in-16.is
 
 pub returns-in-17 : goal.returns-in-17
+unfolding field_of of_the name_at field_names record_name body
 returns-in-17 c = c.bytes-in-17.ensures ∙ rw c.in-17.is
 
 pub returns-in-18 : goal.returns-in-18
+unfolding field_of of_the name_at field_names record_name body
 returns-in-18 c = c.bytes-in-18.ensures ∙ rw c.in-18.is
 
 pub returns-in-19 : goal.returns-in-19
+unfolding field_of of_the name_at field_names record_name body
 returns-in-19 c = c.bytes-in-19.ensures ∙ rw c.in-19.is
 
 pub returns-in-20 : goal.returns-in-20
+unfolding field_of of_the name_at field_names record_name body
 returns-in-20 c = c.bytes-in-20.ensures ∙ rw c.in-20.is
 
 -- no field

@@ -7,6 +7,7 @@ use Rattle.blames.specs.Words.{record_name, field_names, name_at, of_the, field_
 use Rattle.blames.proofs.xor.Goals as goal
 
 pub returns-in-0 : goal.returns-in-0
+unfolding field_of of_the name_at field_names record_name body
 returns-in-0 c = c.bytes.ensures ∙ rw c.in-0.is
 
 -- no field

@@ -1,5 +1,5 @@
 -- `put_front` meets its contract: each table's items, laid one behind the other.
-use Rattle.std.proofs.Common.{[], sym, append-nil, arith, rules}
+use Rattle.std.proofs.Common.{[], sym, append-nil, arith}
 use Rattle.format.specs.Layout.{lay_with}
 use Rattle.laws.proofs.Bytes.{length-le, over-next, over_none}
 use Rattle.header.proofs.put_front.Goals as goal

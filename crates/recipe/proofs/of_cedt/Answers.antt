@@ -9,24 +9,31 @@ use Rattle.recipe.proofs.Numbers.{unnamed, past}
 use Rattle.recipe.proofs.of_cedt.Goals as goal
 
 pub returns-in-Pptt : goal.returns-in-Pptt
+unfolding kind_of
 returns-in-Pptt c = rw c.in-Pptt.is (unnamed pptt c.args.byte (λ l m. omega arith))
 
 pub returns-in-Srat : goal.returns-in-Srat
+unfolding kind_of
 returns-in-Srat c = rw c.in-Srat.is (unnamed srat c.args.byte (λ l m. omega arith))
 
 pub returns-in-Hmat : goal.returns-in-Hmat
+unfolding kind_of
 returns-in-Hmat c = rw c.in-Hmat.is (unnamed hmat c.args.byte (λ l m. omega arith))
 
 pub returns-in-64 : goal.returns-in-64
+unfolding kind_of
 returns-in-64 c = rw (c.in-Cedt.is, c.in-64.is) (refl, refl)
 
 pub returns-in-65 : goal.returns-in-65
+unfolding kind_of
 returns-in-65 c = rw (c.in-Cedt.is, c.in-65.is) (refl, refl)
 
 pub returns-in-66 : goal.returns-in-66
+unfolding kind_of
 returns-in-66 c = rw (c.in-Cedt.is, c.in-66.is) (refl, refl)
 
 pub returns-in-67 : goal.returns-in-67
+unfolding kind_of
 returns-in-67 c = rw (c.in-Cedt.is, c.in-67.is) (refl, refl)
 
 pub returns-in_default : goal.returns-in_default

@@ -9,18 +9,23 @@ use Rattle.recipe.proofs.Numbers.{unnamed, past}
 use Rattle.recipe.proofs.of_srat.Goals as goal
 
 pub returns-in-Pptt : goal.returns-in-Pptt
+unfolding kind_of
 returns-in-Pptt c = rw c.in-Pptt.is (unnamed pptt c.args.byte (λ l m. omega arith))
 
 pub returns-in-32 : goal.returns-in-32
+unfolding kind_of
 returns-in-32 c = rw (c.in-Srat.is, c.in-32.is) (refl, refl)
 
 pub returns-in-33 : goal.returns-in-33
+unfolding kind_of
 returns-in-33 c = rw (c.in-Srat.is, c.in-33.is) (refl, refl)
 
 pub returns-in-34 : goal.returns-in-34
+unfolding kind_of
 returns-in-34 c = rw (c.in-Srat.is, c.in-34.is) (refl, refl)
 
 pub returns-in-35 : goal.returns-in-35
+unfolding kind_of
 returns-in-35 c = rw (c.in-Srat.is, c.in-35.is) (refl, refl)
 
 pub returns-in_default : goal.returns-in_default
@@ -32,7 +37,9 @@ returns-in_default c =
     rw (c.in-Srat.is, e) (refl, refl)
 
 pub returns-in-Hmat : goal.returns-in-Hmat
+unfolding kind_of
 returns-in-Hmat c = rw c.in-Hmat.is (unnamed hmat c.args.byte (λ l m. omega arith))
 
 pub returns-in-Cedt : goal.returns-in-Cedt
+unfolding kind_of
 returns-in-Cedt c = rw c.in-Cedt.is (unnamed cedt c.args.byte (λ l m. omega arith))

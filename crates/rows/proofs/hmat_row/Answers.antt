@@ -9,15 +9,19 @@ use Rattle.rows.proofs.Matches.{other-revision, by-column, by-counts}
 use Rattle.rows.proofs.hmat_row.Goals as goal
 
 pub returns-then-revision-ne-HMAT_REVISION : goal.returns-then-revision-ne-HMAT_REVISION
+unfolding column
 returns-then-revision-ne-HMAT_REVISION c = other-revision hmat c.args.body.now c.if-revision-ne-HMAT_REVISION.true
 
 pub returns-in-0 : goal.returns-in-0
+unfolding column
 returns-in-0 c = c.when.ensures ∙ by-column domains _ tt c.if-revision-ne-HMAT_REVISION.false c.long_type.ensures c.in-0.is refl
 
 pub returns-in-1 : goal.returns-in-1
+unfolding column
 returns-in-1 c = c.matrix_row.ensures ∙ by-counts _ c.if-revision-ne-HMAT_REVISION.false c.long_type.ensures c.in-1.is
 
 pub returns-in-2 : goal.returns-in-2
+unfolding column
 returns-in-2 c = c.when-in-2.ensures ∙ by-column sides _ tt c.if-revision-ne-HMAT_REVISION.false c.long_type.ensures c.in-2.is c.fits2.ensures
 
 pub returns-in_default : goal.returns-in_default

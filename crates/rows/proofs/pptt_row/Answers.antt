@@ -9,12 +9,15 @@ use Rattle.rows.proofs.Matches.{other-revision, by-column}
 use Rattle.rows.proofs.pptt_row.Goals as goal
 
 pub returns-then-revision-ne-PPTT_REVISION : goal.returns-then-revision-ne-PPTT_REVISION
+unfolding column
 returns-then-revision-ne-PPTT_REVISION c = other-revision pptt c.args.body.now c.if-revision-ne-PPTT_REVISION.true
 
 pub returns-in-0 : goal.returns-in-0
+unfolding column
 returns-in-0 c = c.when.ensures ∙ by-column processors _ tt c.if-revision-ne-PPTT_REVISION.false c.short_type.ensures c.in-0.is c.fits2.ensures
 
 pub returns-in-1 : goal.returns-in-1
+unfolding column
 returns-in-1 c = c.when-in-1.ensures ∙ by-column caches _ tt c.if-revision-ne-PPTT_REVISION.false c.short_type.ensures c.in-1.is refl
 
 pub returns-in_default : goal.returns-in_default

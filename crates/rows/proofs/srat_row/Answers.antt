@@ -9,15 +9,19 @@ use Rattle.rows.proofs.Matches.{other-revision, by-column, by-columns}
 use Rattle.rows.proofs.srat_row.Goals as goal
 
 pub returns-then-revision-ne-SRAT_REVISION : goal.returns-then-revision-ne-SRAT_REVISION
+unfolding column
 returns-then-revision-ne-SRAT_REVISION c = other-revision srat c.args.body.now c.if-revision-ne-SRAT_REVISION.true
 
 pub returns-in-1 : goal.returns-in-1
+unfolding column
 returns-in-1 c = c.when.ensures ∙ by-column memories _ tt c.if-revision-ne-SRAT_REVISION.false c.short_type.ensures c.in-1.is refl
 
 pub returns-in-5 : goal.returns-in-5
+unfolding column
 returns-in-5 c = c.when-in-5.ensures ∙ by-column initiators _ tt c.if-revision-ne-SRAT_REVISION.false c.short_type.ensures c.in-5.is refl
 
 pub returns-in-7 : goal.returns-in-7
+unfolding column
 returns-in-7 c = c.rintc_row.ensures ∙ by-columns _ c.if-revision-ne-SRAT_REVISION.false c.short_type.ensures c.in-7.is
 
 pub returns-in_default : goal.returns-in_default

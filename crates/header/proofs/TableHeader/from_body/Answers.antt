@@ -1,5 +1,5 @@
 -- `TableHeader::from_body` meets its contract: each array is filled from its place on, as far as there are bytes.
-use Rattle.std.proofs.Common.{◌∙◌, arith, rules}
+use Rattle.std.proofs.Common.{◌∙◌, arith}
 use Rattle.header.specs.Header.{meant}
 use Rattle.header.proofs.Laws.{front-small}
 use Rattle.header.proofs.TableHeader.from_body.Goals as goal

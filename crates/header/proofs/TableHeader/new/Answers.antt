@@ -1,5 +1,4 @@
 -- `TableHeader::new` meets its contract: what the table says of itself, and the fields as they are given.
-use Rattle.std.proofs.Common.{rules}
 use Rattle.header.proofs.TableHeader.new.Goals as goal
 
 pub returns : goal.returns

@@ -10,7 +10,7 @@ returns-then-out-at c = sym (over-past _ _ _ c.if-out-at.true)
 pub returns : goal.returns
 unfolding header_bytes
 returns c =
-    let l : length c.args.t1.signature ≡ 4 = search rules in
+    let l : length c.args.self.signature ≡ 4 = search rules in
     let two = over-next _ _ _ _ _ _ _ c.copy.ensures c.put_u32.ensures (omega arith) in
     let three = over-next _ _ _ _ _ _ _ two c.copy-2.ensures (rw (length-append, length-le) (omega arith)) in
     let four = over-next _ _ _ _ _ _ _ three c.put_identity.ensures (rw (length-append, length-append, length-le) (omega arith)) in

@@ -1,5 +1,5 @@
 -- `TableHeader::put_body` meets its contract: kind, table and identity are laid one behind the other.
-use Rattle.std.proofs.Common.{[], ◌∷◌, refl, ◌∙◌, rules}
+use Rattle.std.proofs.Common.{[], ◌∷◌, refl, ◌∙◌}
 use Rattle.format.specs.Bytes.{le, part}
 use Rattle.format.specs.Table.{code}
 use Rattle.laws.proofs.Bytes.{over-next}

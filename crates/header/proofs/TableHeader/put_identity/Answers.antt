@@ -7,9 +7,9 @@ use Rattle.header.proofs.TableHeader.put_identity.Goals as goal
 pub returns : goal.returns
 unfolding identity
 returns c =
-    let l : length c.args.t1.oem_id ≡ 6 = search rules in
-    let m : length c.args.t1.oem_table_id ≡ 8 = search rules in
-    let n : length c.args.t1.creator_id ≡ 4 = search rules in
+    let l : length c.args.self.oem_id ≡ 6 = search rules in
+    let m : length c.args.self.oem_table_id ≡ 8 = search rules in
+    let n : length c.args.self.creator_id ≡ 4 = search rules in
     let two = over-next _ _ _ _ _ _ _ c.copy.ensures c.copy-2.ensures (omega arith) in
     let three = over-next _ _ _ _ _ _ _ two c.put_u32.ensures (rw length-append (omega arith)) in
     let four = over-next _ _ _ _ _ _ _ three c.copy-3.ensures (rw (length-append, length-append, length-le) (omega arith)) in

@@ -42,25 +42,33 @@ unfolding first_bad body ranges
 else6 c = else5 c.before.before.before ∙ rw (passed c.before.is-kept4.ensures c.if6.false)
 
 pub returns-then-flags-ge256 : goal.returns-then-flags-ge256
+unfolding bad_field first_bad body ranges
 returns-then-flags-ge256 c = rw (le-ltb _ 256 c.if-flags-ge256.true)
 
 pub returns-then-not-is_kept : goal.returns-then-not-is_kept
+unfolding bad_field first_bad body ranges
 returns-then-not-is_kept c = sym (else1 c ∙ rw (failed (rw div-one at c.is_kept.ensures) c.if-not-is_kept.true))
 
 pub returns-then-not-is_kept-2 : goal.returns-then-not-is_kept-2
+unfolding bad_field first_bad body ranges
 returns-then-not-is_kept-2 c = sym (else2 c ∙ rw (failed c.is_kept-2.ensures c.if-not-is_kept-2.true))
 
 pub returns-then-not-is_kept-3 : goal.returns-then-not-is_kept-3
+unfolding bad_field first_bad body ranges
 returns-then-not-is_kept-3 c = sym (else3 c ∙ rw (failed c.is_kept-3.ensures c.if-not-is_kept-3.true))
 
 pub returns-then-not-is_good_attributes : goal.returns-then-not-is_good_attributes
+unfolding bad_field first_bad body ranges
 returns-then-not-is_good_attributes c = sym (else4 c ∙ rw (failed c.is_good_attributes.ensures c.if-not-is_good_attributes.true))
 
 pub returns-then-not-is_kept-4 : goal.returns-then-not-is_kept-4
+unfolding bad_field first_bad body ranges
 returns-then-not-is_kept-4 c = sym (else5 c ∙ rw (failed c.is_kept-4.ensures c.if-not-is_kept-4.true))
 
 pub returns-then-not-is_kept-5 : goal.returns-then-not-is_kept-5
+unfolding bad_field first_bad body ranges
 returns-then-not-is_kept-5 c = sym (else6 c ∙ rw (failed c.is_kept-5.ensures c.if-not-is_kept-5.true))
 
 pub returns : goal.returns
+unfolding bad_field first_bad body ranges
 returns c = sym (else6 c ∙ rw (passed c.is_kept-5.ensures c.if-not-is_kept-5.false))

@@ -1,5 +1,4 @@
 -- `CacheNode::from_body` meets its contract: each field stands at its offset.
-use borrow.Author.Rules.{rules}
 use Rattle.format.specs.Kind.{Cache, body}
 use Rattle.laws.proofs.Fields.{body_at}
 use Rattle.pptt.proofs.Caches.{next-body}

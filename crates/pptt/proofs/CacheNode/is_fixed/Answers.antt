@@ -6,9 +6,11 @@ use Rattle.laws.proofs.Fields.{fixed-now, differs, equals}
 use Rattle.pptt.proofs.CacheNode.is_fixed.Goals as goal
 
 pub returns-then-get_u8-ne-TYPE : goal.returns-then-get_u8-ne-TYPE
+unfolding layout
 returns-then-get_u8-ne-TYPE c = rw (fixed-now, differs c.get_u8.ensures c.if-get_u8-ne-TYPE.true)
 
 pub returns-then-get_u8-ne-LEN : goal.returns-then-get_u8-ne-LEN
+unfolding layout
 returns-then-get_u8-ne-LEN c = simp (fixed-now, differs c.get_u8-2.ensures c.if-get_u8-ne-LEN.true, both_false)
 
 pub returns : goal.returns

@@ -7,18 +7,23 @@ use Rattle.laws.proofs.Fields.{failed, passed}
 use Rattle.pptt.proofs.CacheNode.is_good_attributes.Goals as goal
 
 pub returns-then-allocation-gt-MAX_ALLOCATION : goal.returns-then-allocation-gt-MAX_ALLOCATION
+unfolding cache_attributes
 returns-then-allocation-gt-MAX_ALLOCATION c = rw (← c.allocation-allocation.ensures, lt-leb _ _ c.if-allocation-gt-MAX_ALLOCATION.true)
 
 pub returns-then-ty-gt-MAX_TYPE : goal.returns-then-ty-gt-MAX_TYPE
+unfolding cache_attributes
 returns-then-ty-gt-MAX_TYPE c = rw (← c.cache_type-ty.ensures) (simp (lt-leb _ _ c.if-ty-gt-MAX_TYPE.true, both_false))
 
 pub returns-then-self-ge32 : goal.returns-then-self-ge32
+unfolding cache_attributes
 returns-then-self-ge32 c = simp (le-ltb _ _ c.if-self-ge32.true, both_false)
 
 pub returns-then-not-is_kept : goal.returns-then-not-is_kept
+unfolding cache_attributes
 returns-then-not-is_kept c = rw (← c.allocation-allocation.ensures) (simp (failed c.is_kept.ensures c.if-not-is_kept.true, both_false))
 
 pub returns-then-not-is_kept-2 : goal.returns-then-not-is_kept-2
+unfolding cache_attributes
 returns-then-not-is_kept-2 c = rw (← c.cache_type-ty.ensures) (simp (failed c.is_kept-2.ensures c.if-not-is_kept-2.true, both_false))
 
 pub returns : goal.returns

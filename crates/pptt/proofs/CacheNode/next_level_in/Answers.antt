@@ -1,5 +1,4 @@
 -- `CacheNode::next_level_in` meets its contract: the second field of a body stands at this offset.
-use borrow.Author.Rules.{rules}
 use Rattle.pptt.proofs.Caches.{next-body}
 use Rattle.pptt.proofs.CacheNode.next_level_in.Goals as goal
 

@@ -1,5 +1,4 @@
 -- `CacheNode::next_level_of` meets its contract: the second field of a record stands at this offset.
-use borrow.Author.Rules.{rules}
 use Rattle.pptt.proofs.Caches.{next-record}
 use Rattle.pptt.proofs.CacheNode.next_level_of.Goals as goal
 

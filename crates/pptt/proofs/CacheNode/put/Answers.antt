@@ -1,6 +1,5 @@
 -- `CacheNode::put` meets its contract: the numbers at their widths are those of the layout.
 use mathlib.Core.Path.{◌∙◌}
-use borrow.Author.Rules.{rules}
 use Rattle.format.specs.Layout.{as_is}
 use Rattle.format.specs.Form.{layout}
 use Rattle.format.specs.Node.{bytes}

@@ -1,5 +1,4 @@
 -- `CacheNodeBuilder::allocation_type` meets its contract: the bits are the ones that the variant stands for.
-use borrow.Author.Rules.{rules}
 use Rattle.pptt.proofs.CacheNodeBuilder.allocation_type.Goals as goal
 
 pub returns : goal.returns

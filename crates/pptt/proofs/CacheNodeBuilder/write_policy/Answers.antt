@@ -1,5 +1,4 @@
 -- `CacheNodeBuilder::write_policy` meets its contract: the bits are the ones that the variant stands for.
-use borrow.Author.Rules.{rules}
 use Rattle.pptt.proofs.CacheNodeBuilder.write_policy.Goals as goal
 
 pub returns : goal.returns

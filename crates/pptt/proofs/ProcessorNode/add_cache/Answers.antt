@@ -1,6 +1,5 @@
 -- `ProcessorNode::add_cache` meets its contract: three numbers laid over the record; past the end none.
 use mathlib.Core.Path.{sym, ◌∙◌}
-use borrow.Author.Rules.{rules}
 use Rattle.pptt.specs.Processor.{grown}
 use Rattle.laws.proofs.Joins.{join_one}
 use Rattle.pptt.proofs.Processors.{grown-past}

@@ -1,5 +1,4 @@
 -- `ProcessorNode::from_body` meets its contract: each field stands at its offset.
-use borrow.Author.Rules.{rules}
 use Rattle.format.specs.Kind.{Processor, body}
 use Rattle.laws.proofs.Fields.{body_at}
 use Rattle.pptt.proofs.Processors.{parent-body}

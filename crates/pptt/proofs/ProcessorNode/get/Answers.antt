@@ -1,5 +1,4 @@
 -- `ProcessorNode::get` meets its contract: the layout, read by places, has its fields at these offsets.
-use borrow.Author.Rules.{rules}
 use lib.ListN.{drop}
 use Rattle.format.specs.Layout.{as_is}
 use Rattle.format.specs.Bytes.{value, part}

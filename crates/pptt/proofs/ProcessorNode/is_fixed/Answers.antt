@@ -2,7 +2,6 @@
 use mathlib.Core.Path.{sym, ◌∙◌}
 use native.Mathlib.Omega.{arith}
 use lib.Seq.{length-take-le}
-use borrow.Author.Rules.{rules}
 use Rattle.format.specs.Row.{form_in}
 use Rattle.pptt.proofs.Processors.{fixed-window}
 use Rattle.pptt.proofs.ProcessorNode.is_fixed.Goals as goal

@@ -1,5 +1,4 @@
 -- `ProcessorNode::is_head` meets its contract, test by test.
-use borrow.Author.Rules.{rules}
 use Rattle.laws.proofs.Tests.{both_false}
 use Rattle.laws.proofs.Fields.{differs, equals}
 use Rattle.pptt.proofs.Processors.{processor-fixed}

@@ -1,5 +1,4 @@
 -- `ProcessorNode::parent_in` meets its contract: the second field of a body stands at this offset.
-use borrow.Author.Rules.{rules}
 use Rattle.pptt.proofs.Processors.{parent-body}
 use Rattle.pptt.proofs.ProcessorNode.parent_in.Goals as goal
 

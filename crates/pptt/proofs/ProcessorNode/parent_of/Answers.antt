@@ -1,5 +1,4 @@
 -- `ProcessorNode::parent_of` meets its contract: the second field of a record stands at this offset.
-use borrow.Author.Rules.{rules}
 use Rattle.pptt.proofs.Processors.{parent-record}
 use Rattle.pptt.proofs.ProcessorNode.parent_of.Goals as goal
 

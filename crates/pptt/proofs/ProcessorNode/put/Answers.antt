@@ -1,6 +1,5 @@
 -- `ProcessorNode::put` meets its contract: the numbers at their widths are those of the first seven items of the layout.
 use mathlib.Core.Path.{◌∙◌}
-use borrow.Author.Rules.{rules}
 use Rattle.format.specs.Layout.{as_is}
 use Rattle.format.specs.Form.{layout}
 use Rattle.laws.proofs.Joins.{lay-join}

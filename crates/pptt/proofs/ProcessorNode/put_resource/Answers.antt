@@ -1,7 +1,6 @@
 -- `ProcessorNode::put_resource` meets its contract: past the end nothing is written.
 use mathlib.Core.Path.{sym}
 use native.Mathlib.Omega.{arith}
-use borrow.Author.Rules.{rules}
 use Rattle.laws.proofs.Bytes.{over-past}
 use Rattle.pptt.proofs.ProcessorNode.put_resource.Goals as goal
 

@@ -1,5 +1,4 @@
 -- `ProcessorNode::resource` meets its contract: read from the place on.
-use borrow.Author.Rules.{rules}
 use Rattle.pptt.proofs.ProcessorNode.resource.Goals as goal
 
 pub returns : goal.returns

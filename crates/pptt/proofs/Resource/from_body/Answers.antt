@@ -1,5 +1,4 @@
 -- `Resource::from_body` meets its contract: its one field stands first.
-use borrow.Author.Rules.{rules}
 use Rattle.format.specs.Kind.{Resource, body}
 use Rattle.laws.proofs.Fields.{fields-now}
 use Rattle.pptt.proofs.Resource.from_body.Goals as goal
