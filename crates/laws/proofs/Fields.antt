@@ -27,11 +27,11 @@ use Rattle.laws.proofs.Shapes.{Plain}
 
 -- ---- what a test of code says of the test that it stands for
 
-pub failed : {a b : Bool} → a ≡ b → not a ≡ true → b ≡ false
-failed {a} e h = sym e ∙ not-true a h
+pub failed : {a b : Bool} → a ≡ b → a ≡ false → b ≡ false
+failed e h = sym e ∙ h
 
-pub passed : {a b : Bool} → a ≡ b → not a ≡ false → b ≡ true
-passed {a} e h = sym e ∙ not-false a h
+pub passed : {a b : Bool} → a ≡ b → a ≡ true → b ≡ true
+passed e h = sym e ∙ h
 
 pub differs : {x y v : ℕ} → x ≡ y → (x ≡ v → ⊥) → eqb y v ≡ false
 differs {x} {y} {v} e h = rw e at (ne_eqb x v h)

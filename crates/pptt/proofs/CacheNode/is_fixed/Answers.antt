@@ -1,5 +1,4 @@
 -- `CacheNode::is_fixed` meets its contract, test by test.
-use borrow.Author.Rules.{rules}
 use Rattle.format.specs.Form.{layout}
 use Rattle.laws.proofs.Tests.{both_right, both_false}
 use Rattle.laws.proofs.Fields.{fixed-now, differs, equals}

@@ -1,5 +1,4 @@
 -- `CacheNode::is_good` meets its contract: a record is sound where its fixed values are, and its node has no bad field.
-use borrow.Author.Rules.{rules}
 use Rattle.laws.proofs.Fields.{failed, passed, sound-node}
 use Rattle.pptt.proofs.CacheNode.is_good.Goals as goal
 

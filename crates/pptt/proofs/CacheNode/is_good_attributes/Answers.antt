@@ -1,5 +1,4 @@
 -- `CacheNode::is_good_attributes` meets its contract, test by test.
-use borrow.Author.Rules.{rules}
 use borrow.Author.Tests.{le-ltb, lt-ltb, le-leb, lt-leb}
 use Rattle.format.specs.Form.{cache_attributes}
 use Rattle.laws.proofs.Tests.{both_false}

@@ -2,7 +2,6 @@
 use mathlib.Core.Path.{sym}
 use native.Mathlib.Omega.{arith}
 use lib.Seq.{take_all, length-take-le}
-use borrow.Author.Rules.{rules}
 use Rattle.pptt.proofs.CacheNode.is_sound.Goals as goal
 
 pub slice_bounds-is_good-end : goal.slice_bounds-is_good-end
