@@ -1,7 +1,6 @@
 -- `text::byte` meets its contract: a full buffer stays, in another one byte is set.
 use mathlib.Core.Path.{sym}
 use native.Mathlib.Omega.{arith}
-use borrow.Author.Rules.{rules}
 use Rattle.laws.proofs.Bytes.{over-one, over-past}
 use Rattle.text.proofs.Laws.{laid_as}
 use Rattle.text.proofs.byte.Goals as goal

@@ -1,6 +1,5 @@
 -- `text::bytes` meets its contract: the bytes are copied, and as many count as fit.
 use native.Mathlib.Omega.{arith}
-use borrow.Author.Rules.{rules}
 use Rattle.text.proofs.Laws.{laid_as}
 use Rattle.text.proofs.bytes.Goals as goal
 

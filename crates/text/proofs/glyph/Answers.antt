@@ -1,5 +1,4 @@
 -- `text::glyph` meets its contract: its test is the definition's.
-use borrow.Author.Rules.{rules}
 use borrow.Author.Tests.{lt-ltb, le-ltb}
 use Rattle.text.specs.Text.{glyph}
 use Rattle.text.proofs.glyph.Goals as goal

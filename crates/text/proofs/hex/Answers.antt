@@ -1,6 +1,5 @@
 -- `text::hex` meets its contract: its test is the definition's.
 use mathlib.Core.Path.{◌∙◌}
-use borrow.Author.Rules.{rules}
 use Rattle.text.proofs.Digits.{hexed-none, hexed-some}
 use Rattle.text.proofs.hex.Goals as goal
 

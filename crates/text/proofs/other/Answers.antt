@@ -1,5 +1,4 @@
 -- `text::other` meets its contract: a comma, and the number behind it.
-use borrow.Author.Rules.{rules}
 use Rattle.text.proofs.Laws.{laid_next}
 use Rattle.text.proofs.other.Goals as goal
 

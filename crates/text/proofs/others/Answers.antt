@@ -1,10 +1,8 @@
 -- The answers that the search does not find.
-use mathlib.Core.Path.{◌≡◌, refl, ◌∙◌}
-use Prim.Native.Nat.{◌-◌, ◌≤◌}
+use mathlib.Core.Path.{refl, ◌∙◌}
 use native.Mathlib.Omega.{arith}
 use borrow.Author.Rules.{rules}
-use lib.ListN.{length, drop}
-use Rattle.text.specs.Text.{laid, others}
+use Rattle.text.specs.Text.{others}
 use Rattle.text.proofs.Laws.{laid-low, laid-behind, laid-turn, laid_end}
 use Rattle.text.proofs.Digits.{others-turn, others-end}
 use Rattle.text.proofs.others.Goals as goal

@@ -1,12 +1,8 @@
 -- `text::others` meets its contract. The invariant: the numbers still to come, laid behind those that have come, give the answer.
-use mathlib.Core.Path.{◌≡◌, refl, ◌∙◌}
+use mathlib.Core.Path.{◌≡◌}
 use Prim.Native.Nat.{◌-◌, ◌≤◌}
-use native.Mathlib.Omega.{arith}
-use borrow.Author.Rules.{rules}
 use lib.ListN.{length, drop}
 use Rattle.text.specs.Text.{laid, others}
-use Rattle.text.proofs.Laws.{laid-low, laid-behind, laid-turn, laid_end}
-use Rattle.text.proofs.Digits.{others-turn, others-end}
 use Rattle.text.proofs.others.Given as goal
 
 abbrev pub invariant-loop-i : goal.invariant-loop-i

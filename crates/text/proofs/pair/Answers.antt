@@ -1,6 +1,5 @@
 -- `text::pair` meets its contract: the higher digit, and the lower behind it.
 use mathlib.Core.Path.{◌∙◌}
-use borrow.Author.Rules.{rules}
 use Rattle.text.proofs.Laws.{laid_next}
 use Rattle.text.proofs.pair.Goals as goal
 

@@ -1,6 +1,5 @@
 -- `text::refused` meets its contract: the word, the number behind it, the place behind both.
 use mathlib.Core.Path.{◌∙◌}
-use borrow.Author.Rules.{rules}
 use Rattle.format.specs.Listing.{refused_words}
 use Rattle.text.proofs.Laws.{laid-behind}
 use Rattle.text.proofs.refused.Goals as goal

@@ -1,5 +1,4 @@
 -- `text::spaced` meets its contract: a space, and the number behind it.
-use borrow.Author.Rules.{rules}
 use Rattle.text.proofs.Laws.{laid_next}
 use Rattle.text.proofs.spaced.Goals as goal
 

@@ -1,5 +1,4 @@
 -- `text::summed` meets its contract: the word, and the number behind it.
-use borrow.Author.Rules.{rules}
 use Rattle.format.specs.Listing.{sum_words}
 use Rattle.text.proofs.Laws.{laid_next}
 use Rattle.text.proofs.summed.Goals as goal

@@ -1,5 +1,4 @@
 -- `note` meets its contract: each test is one of the definition.
-use borrow.Author.Rules.{rules}
 use borrow.Author.Tests.{le-leb, lt-leb, eq-eqb, ne_eqb}
 use Rattle.marks.specs.Marks.{noted}
 use Rattle.marks.proofs.Mark.note.Goals as goal

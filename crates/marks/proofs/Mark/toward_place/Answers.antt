@@ -1,6 +1,5 @@
 -- `toward_place` meets its contract: the mark is that under the key, and the tests are those of the definition.
 use mathlib.Core.Path.{sym}
-use borrow.Author.Rules.{rules}
 use borrow.Author.Tests.{le-ltb, lt-ltb}
 use lib.Dec.{ltb}
 use Rattle.marks.specs.Marks.{toward_place}

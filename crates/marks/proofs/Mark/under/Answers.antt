@@ -1,7 +1,6 @@
 -- `under` meets its contract: past the last mark there is none.
 use mathlib.Core.Path.{sym, ap, ◌∙◌}
 use lib.ListN.{get_or-eq_default}
-use borrow.Author.Rules.{rules}
 use Rattle.marks.specs.Marks.{mark_in, under}
 use Rattle.marks.proofs.Mark.under.Goals as goal
 
