@@ -1,6 +1,5 @@
 -- `first` meets its contract: where there are no more bytes than asked for, all of them.
 use mathlib.Core.Path.{sym}
-use borrow.Author.Rules.{rules}
 use native.Mathlib.Omega.{arith}
 use lib.Seq.{take_all, length-take-le}
 use Rattle.frames.proofs.first.Goals as goal

@@ -1,5 +1,4 @@
 -- `framed` meets its contract: its tests one after the other.
-use borrow.Author.Rules.{rules}
 use borrow.Author.Tests.{le-leb, lt-leb}
 use Rattle.format.specs.Read.{framed}
 use Rattle.frames.proofs.framed.Goals as goal

@@ -1,6 +1,5 @@
 -- `judge_as` meets its contract: the tests of a header in order, each passed one told to the next.
-use borrow.Author.Rules.{rules}
-use borrow.Author.Tests.{le-leb, lt-leb, not-true, not-false}
+use borrow.Author.Tests.{le-leb, lt-leb}
 use Rattle.frames.proofs.Heads.{head-fault, head-long}
 use Rattle.frames.proofs.judge_as.Goals as goal
 
@@ -17,14 +16,14 @@ returns-then-n-gt-LIMIT c =
 
 pub returns-then-not-right : goal.returns-then-not-right
 returns-then-not-right c =
-    rw (head-long _ _ _ _ c.length_in-n.ensures c.front.ensures c.if-n-front.false c.if-table-n.false c.if-n-gt-LIMIT.false, ← c.right.ensures, not-true c.right.result c.if-not-right.true)
+    rw (head-long _ _ _ _ c.length_in-n.ensures c.front.ensures c.if-n-front.false c.if-table-n.false c.if-n-gt-LIMIT.false, ← c.right.ensures, c.if-not-right.true)
 
 pub returns-then-not-tail_stands : goal.returns-then-not-tail_stands
 returns-then-not-tail_stands c =
     let t = c.tail_stands in
-    rw (head-long _ _ _ _ c.length_in-n.ensures c.front.ensures c.if-n-front.false c.if-table-n.false c.if-n-gt-LIMIT.false, ← c.right.ensures, not-false c.right.result c.if-not-right.false, ← t.ensures, not-true t.result c.if-not-tail_stands.true)
+    rw (head-long _ _ _ _ c.length_in-n.ensures c.front.ensures c.if-n-front.false c.if-table-n.false c.if-n-gt-LIMIT.false, ← c.right.ensures, c.if-not-right.false, ← t.ensures, c.if-not-tail_stands.true)
 
 pub returns : goal.returns
 returns c =
     let t = c.tail_stands in
-    rw (head-long _ _ _ _ c.length_in-n.ensures c.front.ensures c.if-n-front.false c.if-table-n.false c.if-n-gt-LIMIT.false, ← c.right.ensures, not-false c.right.result c.if-not-right.false, ← t.ensures, not-false t.result c.if-not-tail_stands.false)
+    rw (head-long _ _ _ _ c.length_in-n.ensures c.front.ensures c.if-n-front.false c.if-table-n.false c.if-n-gt-LIMIT.false, ← c.right.ensures, c.if-not-right.false, ← t.ensures, c.if-not-tail_stands.false)

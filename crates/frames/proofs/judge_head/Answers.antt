@@ -1,5 +1,4 @@
 -- `judge_head` meets its contract: the length lent, the signature, and then the header of that table.
-use borrow.Author.Rules.{rules}
 use borrow.Author.Tests.{lt-ltb, le-ltb}
 use Rattle.format.specs.Read.{judge_head}
 use Rattle.frames.proofs.judge_head.Goals as goal

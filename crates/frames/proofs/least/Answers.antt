@@ -1,5 +1,4 @@
 -- `least` meets its contract: a frame's widths are added up.
-use borrow.Author.Rules.{rules}
 use Rattle.frames.proofs.least.Goals as goal
 
 pub returns-in-Pptt : goal.returns-in-Pptt

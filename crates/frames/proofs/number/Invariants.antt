@@ -1,13 +1,8 @@
 -- `number` meets its contract. The invariant: the number on the walk from the start is that on the walk from here on.
-use mathlib.Core.Path.{◌≡◌, refl, sym, ap, ◌∙◌}
-use Prim.Native.Nat.{ℕ, suc, ◌+◌, ◌-◌, ◌≤◌}
-use native.Mathlib.Omega.{arith}
-use native.Mathlib.Numerals.{add-one}
-use borrow.Author.Rules.{rules}
-use borrow.Author.Tests.{not-true, not-false}
+use mathlib.Core.Path.{◌≡◌}
+use Prim.Native.Nat.{◌+◌, ◌-◌, ◌≤◌}
 use Rattle.header.specs.Header.{meant}
-use Rattle.frames.specs.Frames.{ahead, numbered, number_from}
-use Rattle.frames.proofs.Places.{least-two, room_for, numbered-bare, numbered-past, numbered-here, numbered-short, numbered-on}
+use Rattle.frames.specs.Frames.{ahead, numbered}
 use Rattle.frames.proofs.number.Given as goal
 
 abbrev pub invariant-loop-p : goal.invariant-loop-p

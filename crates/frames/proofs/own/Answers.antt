@@ -1,5 +1,4 @@
 -- `own` meets its contract: the length is read from its place.
-use borrow.Author.Rules.{rules}
 use mathlib.Core.Path.{◌∙◌}
 use Rattle.frames.proofs.own.Goals as goal
 

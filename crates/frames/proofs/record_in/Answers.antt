@@ -1,5 +1,4 @@
 -- `record_in` meets its contract: as many bytes as the frame's length says.
-use borrow.Author.Rules.{rules}
 use mathlib.Core.Path.{◌∙◌}
 use Rattle.frames.proofs.record_in.Goals as goal
 

@@ -1,5 +1,4 @@
 -- `right` meets its contract: what is left of the whole sum modulo 256 is 0.
-use borrow.Author.Rules.{rules}
 use Rattle.frames.proofs.right.Goals as goal
 
 pub returns : goal.returns

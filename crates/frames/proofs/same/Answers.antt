@@ -1,11 +1,8 @@
 -- The answers that the search does not find.
-use mathlib.Core.Path.{◌≡◌, refl, sym, ◌∙◌}
-use Prim.Native.Nat.{◌-◌, ◌≤◌}
+use mathlib.Core.Path.{refl, sym, ◌∙◌}
 use native.Mathlib.Omega.{arith}
 use borrow.Author.Rules.{rules}
 use borrow.Author.Tests.{eq-eqb, ne_eqb}
-use lib.ListN.{length, drop}
-use Rattle.format.specs.Bytes.{same}
 use Rattle.frames.proofs.Heads.{same_length, same_turn, same_end}
 use Rattle.frames.proofs.same.Goals as goal
 

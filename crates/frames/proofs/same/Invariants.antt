@@ -1,12 +1,8 @@
 -- `same` meets its contract. The invariant: the strings are the same if what the loop has not passed yet is.
-use mathlib.Core.Path.{◌≡◌, refl, sym, ◌∙◌}
+use mathlib.Core.Path.{◌≡◌}
 use Prim.Native.Nat.{◌-◌, ◌≤◌}
-use native.Mathlib.Omega.{arith}
-use borrow.Author.Rules.{rules}
-use borrow.Author.Tests.{eq-eqb, ne_eqb}
 use lib.ListN.{length, drop}
 use Rattle.format.specs.Bytes.{same}
-use Rattle.frames.proofs.Heads.{same_length, same_turn, same_end}
 use Rattle.frames.proofs.same.Given as goal
 
 abbrev pub invariant-loop-i : goal.invariant-loop-i

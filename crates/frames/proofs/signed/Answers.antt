@@ -1,5 +1,4 @@
 -- `signed` meets its contract: the first four bytes against each signature.
-use borrow.Author.Rules.{rules}
 use Rattle.frames.proofs.signed.Goals as goal
 
 pub returns-then-same : goal.returns-then-same

@@ -1,7 +1,6 @@
 -- `size_at` meets its contract: the length stands behind type and reserved bytes, at the width of each table's frame.
 use Prim.Native.Nat.{◌+◌}
 use native.Mathlib.Omega.{arith}
-use borrow.Author.Rules.{rules}
 use Rattle.laws.proofs.Bytes.{value-byte}
 use Rattle.frames.proofs.Places.{part-drop}
 use Rattle.frames.proofs.size_at.Goals as goal

@@ -1,5 +1,4 @@
 -- `size_in_lem` meets its contract: the length stands behind type and reserved bytes, at the width of each table's frame.
-use borrow.Author.Rules.{rules}
 use Rattle.frames.proofs.size_in.Goals as goal
 
 pub returns-in-Pptt : goal.returns-in-Pptt

@@ -1,6 +1,5 @@
 -- `starts` meets its contract: the record that has a number is there, and its type decides.
 use mathlib.Core.Path.{sym, ◌∙◌}
-use borrow.Author.Rules.{rules}
 use borrow.Author.Tests.{eq-eqb, ne_eqb}
 use Rattle.header.specs.Header.{meant}
 use Rattle.frames.proofs.Places.{named-numbered}

@@ -1,6 +1,5 @@
 -- `tail_stands` meets its contract: each table's items are read by their places.
 use mathlib.Core.Path.{sym}
-use borrow.Author.Rules.{rules}
 use borrow.Author.Tests.{eq-eqb, ne_eqb}
 use lib.Dec.{eqb}
 use Rattle.laws.proofs.Offsets.{fixed-at}

@@ -1,5 +1,4 @@
 -- `type_in` meets its contract: the type stands at the front, at the width of each table's frame.
-use borrow.Author.Rules.{rules}
 use Rattle.format.specs.Bytes.{part}
 use Rattle.frames.proofs.type_in.Goals as goal
 

@@ -3,7 +3,6 @@ use mathlib.Core.Path.{◌≡◌, refl, sym, ap, ◌∙◌}
 use mathlib.Core.Bool.{true}
 use native.Mathlib.Omega.{arith}
 use borrow.Author.Rules.{rules}
-use borrow.Author.Tests.{not-true, not-false}
 use lib.ListN.{length, drop}
 use Rattle.format.specs.Read.{framed}
 use Rattle.header.specs.Header.{meant}
@@ -16,13 +15,13 @@ use Rattle.read.proofs.judge.Goals as goal
 pub returns-then-not-framed : goal.returns-then-not-framed
 unfolding judged_at
 returns-then-not-framed c =
-    rw (← c.rest-s.ensures, ← c.framed.ensures, not-true c.framed.result c.if-not-framed.true)
+    rw (← c.rest-s.ensures, ← c.framed.ensures, c.if-not-framed.true)
 
 pub returns-then-not-sound : goal.returns-then-not-sound
 returns-then-not-sound c =
     let a = c.args in
     let j = judged-by (meant a.t) a.c.now a.revision a.mask a.p _ _ _ _ _ _ _ c.rest-s.ensures c.record_in-body.ensures c.row_of.ensures c.known-row.ensures c.framed.ensures c.sound.ensures refl in
-    sym (j ∙ rw (not-false c.framed.result c.if-not-framed.false, not-true c.sound.result c.if-not-sound.true))
+    sym (j ∙ rw (c.if-not-framed.false, c.if-not-sound.true))
 
 pub refs_stand-requires : goal.refs_stand-requires
 refs_stand-requires c =
@@ -32,16 +31,16 @@ pub returns-then-not-refs_stand : goal.returns-then-not-refs_stand
 returns-then-not-refs_stand c =
     let a = c.args in
     let j = judged-by (meant a.t) a.c.now a.revision a.mask a.p _ _ _ _ _ _ _ c.rest-s.ensures c.record_in-body.ensures c.row_of.ensures c.known-row.ensures c.framed.ensures c.sound.ensures c.refs_stand.ensures in
-    sym (j ∙ rw (not-false c.framed.result c.if-not-framed.false, not-false c.sound.result c.if-not-sound.false, not-true c.refs_stand.result c.if-not-refs_stand.true))
+    sym (j ∙ rw (c.if-not-framed.false, c.if-not-sound.false, c.if-not-refs_stand.true))
 
 pub overflow_add-result : goal.overflow_add-result
 overflow_add-result c =
     let a = c.args in
-    let y : framed (meant a.t) (drop a.p a.c.now) ≡ true = rw (← c.rest-s.ensures, ← c.framed.ensures) (not-false c.framed.result c.if-not-framed.false) in
+    let y : framed (meant a.t) (drop a.p a.c.now) ≡ true = rw (← c.rest-s.ensures, ← c.framed.ensures) (c.if-not-framed.false) in
     omega (arith, ap length (rw c.rest-s.ensures at c.record_in-body.ensures), (room (meant a.t) a.c.now a.p y).1)
 
 pub returns : goal.returns
 returns c =
     let a = c.args in
     let j = judged-by (meant a.t) a.c.now a.revision a.mask a.p _ _ _ _ _ _ _ c.rest-s.ensures c.record_in-body.ensures c.row_of.ensures c.known-row.ensures c.framed.ensures c.sound.ensures c.refs_stand.ensures in
-    sym (j ∙ rw (not-false c.framed.result c.if-not-framed.false, not-false c.sound.result c.if-not-sound.false, not-false c.refs_stand.result c.if-not-refs_stand.false))
+    sym (j ∙ rw (c.if-not-framed.false, c.if-not-sound.false, c.if-not-refs_stand.false))

@@ -4,7 +4,6 @@ use Prim.Native.Nat.{◌-◌, ◌*◌, ◌≤◌}
 use native.Mathlib.Nat.{sub-zero}
 use native.Mathlib.Omega.{arith}
 use borrow.Author.Rules.{rules}
-use borrow.Author.Tests.{not-true, not-false}
 use lib.ListN.{drop}
 use Rattle.format.specs.Table.{pptt}
 use Rattle.frames.specs.Frames.{refers}
@@ -19,13 +18,13 @@ pub returns-then-not-names_cache : goal.returns-then-not-names_cache
 returns-then-not-names_cache c =
     let a = c.args in
     let turn = linked-turn (refers pptt a.c.now a.own) _ c.loop-i.i a.resources.now c.loop-i-test.true in
-    sym (c.loop-i.invariant.1 ∙ turn ∙ rw (← c.get_u32.ensures, ← c.names_cache.ensures, not-true c.names_cache.result c.if-not-names_cache.true))
+    sym (c.loop-i.invariant.1 ∙ turn ∙ rw (← c.get_u32.ensures, ← c.names_cache.ensures, c.if-not-names_cache.true))
 
 pub loop-i-preserved : goal.loop-i-preserved
 loop-i-preserved c =
     let a = c.args in
     let turn = linked-turn (refers pptt a.c.now a.own) _ c.loop-i.i a.resources.now c.loop-i-test.true in
-    (omega arith, c.loop-i.invariant.1 ∙ turn ∙ rw (← c.get_u32.ensures, ← c.names_cache.ensures, not-false c.names_cache.result c.if-not-names_cache.false))
+    (omega arith, c.loop-i.invariant.1 ∙ turn ∙ rw (← c.get_u32.ensures, ← c.names_cache.ensures, c.if-not-names_cache.false))
 
 pub returns : goal.returns
 returns c =

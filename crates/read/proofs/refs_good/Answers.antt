@@ -1,18 +1,17 @@
 -- `refs_good` meets its contract, row by row.
 use mathlib.Core.Path.{◌∙◌}
 use borrow.Author.Rules.{rules}
-use borrow.Author.Tests.{not-true, not-false}
 use Rattle.format.specs.Row.{memories, initiators, old_rintcs, domains, matrices, sides, bridges, windows, xors, rintcs}
 use Rattle.read.proofs.Refs.{bare-refs, none-refs, cache-refs, processor-refs}
 use Rattle.read.proofs.refs_good.Goals as goal
 
 pub returns-then-not-names_processor_or_none : goal.returns-then-not-names_processor_or_none
 returns-then-not-names_processor_or_none c =
-    rw (c.in-Processors.is, processor-refs, ← c.parent_of.ensures, ← c.names_processor_or_none.ensures, not-true c.names_processor_or_none.result c.if-not-names_processor_or_none.true)
+    rw (c.in-Processors.is, processor-refs, ← c.parent_of.ensures, ← c.names_processor_or_none.ensures, c.if-not-names_processor_or_none.true)
 
 pub returns-else-not-names_processor_or_none : goal.returns-else-not-names_processor_or_none
 returns-else-not-names_processor_or_none c =
-    rw (c.in-Processors.is, processor-refs, ← c.parent_of.ensures, ← c.names_processor_or_none.ensures, not-false c.names_processor_or_none.result c.if-not-names_processor_or_none.false)
+    rw (c.in-Processors.is, processor-refs, ← c.parent_of.ensures, ← c.names_processor_or_none.ensures, c.if-not-names_processor_or_none.false)
     (c.links.ensures ∙ rw c.rest.ensures)
 
 pub returns-in-Caches : goal.returns-in-Caches

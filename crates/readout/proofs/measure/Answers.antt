@@ -3,7 +3,6 @@ use mathlib.Core.Path.{sym, ◌∙◌}
 use Prim.Native.Nat.{◌-◌, ◌+◌, ◌*◌, ◌≤◌, ◌<◌}
 use native.Mathlib.Omega.{arith}
 use borrow.Author.Rules.{rules}
-use borrow.Author.Tests.{not-true, not-false}
 use lib.ListN.{length}
 use Rattle.header.specs.Header.{meant}
 use Rattle.header.proofs.Laws.{front_long}
@@ -32,12 +31,12 @@ loop-p-init c = rw c.front-p.ensures (omega arith, omega (arith, front_long (mea
 
 pub returns-then-not-framed : goal.returns-then-not-framed
 returns-then-not-framed c =
-    let f = rw c.rest-s.ensures at (sym c.framed.ensures ∙ not-true _ c.if-not-framed.true) in
+    let f = rw c.rest-s.ensures at (sym c.framed.ensures ∙ c.if-not-framed.true) in
     c.unless_retired.ensures ∙ counting-bad _ _ _ c.loop-p-test.true f c.loop-p.invariant.2
 
 pub returns-then-not-is_known : goal.returns-then-not-is_known
 returns-then-not-is_known c =
-    counting-unknown _ _ _ (learnt k) (sym c.is_Known.ensures ∙ not-true _ c.if-not-is_known.true) (turn k).before.loop.invariant.2
+    counting-unknown _ _ _ (learnt k) (sym c.is_Known.ensures ∙ c.if-not-is_known.true) (turn k).before.loop.invariant.2
 
 pub calls_len-q-requires : goal.calls_len-q-requires
 calls_len-q-requires c =
@@ -56,7 +55,7 @@ pub loop-p-preserved : goal.loop-p-preserved
 loop-p-preserved c =
     let T = learnt k in
     let i = (turn k).before.loop.invariant in
-    let u = sym c.is_Known.ensures ∙ not-false _ c.if-not-is_known.false in
+    let u = sym c.is_Known.ensures ∙ c.if-not-is_known.false in
     (omega (arith, c.calls_len-q.ensures.1, T.some), omega arith, counting-next _ _ _ T _ _ i.1 u (c.calls_len-q.ensures.0 _) c.first_retired-old.ensures i.2)
 
 pub returns : goal.returns

@@ -4,7 +4,6 @@ use Prim.Native.Nat.{◌-◌, ◌+◌, ◌*◌, ◌≤◌}
 use native.Mathlib.Numerals.{add-one}
 use native.Mathlib.Omega.{arith}
 use borrow.Author.Rules.{rules}
-use borrow.Author.Tests.{not-true, not-false}
 use lib.ListN.{length}
 use Rattle.header.specs.Header.{meant}
 use Rattle.laws.proofs.Bytes.{length_over}
@@ -52,7 +51,7 @@ shape_of-out-then-not-framed c = ap length (returns c) ∙ length_over _ _ _
 
 pub returns-then-not-framed : goal.returns-then-not-framed
 returns-then-not-framed c =
-    let f = rw c.rest-s.ensures at (sym c.framed.ensures ∙ not-true _ c.if-not-framed.true) in
+    let f = rw c.rest-s.ensures at (sym c.framed.ensures ∙ c.if-not-framed.true) in
     writing-bad _ _ _ _ c.loop-p-test.true f c.loop-p.invariant.3
 
 pub shape_of-out-then-not-is_known : goal.shape_of-out-then-not-is_known
@@ -60,7 +59,7 @@ shape_of-out-then-not-is_known c = ap length (returns-2 c) ∙ length_over _ _ _
 
 pub returns-then-not-is_known : goal.returns-then-not-is_known
 returns-then-not-is_known c =
-    writing-unknown _ _ _ _ (learnt k) (sym c.is_Known.ensures ∙ not-true _ c.if-not-is_known.true) (turn k).before.loop.invariant.3
+    writing-unknown _ _ _ _ (learnt k) (sym c.is_Known.ensures ∙ c.if-not-is_known.true) (turn k).before.loop.invariant.3
 
 pub put_record-q-requires : goal.put_record-q-requires
 put_record-q-requires c =
@@ -85,7 +84,7 @@ loop-p-preserved c =
       omega (arith, c.put_record-q.ensures.1, T.some),
       omega (arith, T.some),
       search rules,
-      writing-next _ _ _ _ T (sym c.is_Known.ensures ∙ not-false _ c.if-not-is_known.false) c.put_record-q.ensures.0 l.loop.inv.3,
+      writing-next _ _ _ _ T (sym c.is_Known.ensures ∙ c.if-not-is_known.false) c.put_record-q.ensures.0 l.loop.inv.3,
       rw (add-one, T.body) (passed-next _ _ l.loop.count l.loop.p T.frame l.loop.inv.4),
       rw n.note.ensures (marked k),
     )
