@@ -1,6 +1,5 @@
 -- `CxlFixedMemory::add_target` meets its contract: one number at its place.
 use native.Mathlib.Omega.{arith}
-use borrow.Author.Rules.{rules}
 use Rattle.laws.proofs.Over.{over-at}
 use Rattle.cedt.proofs.CxlFixedMemory.add_target.Goals as goal
 

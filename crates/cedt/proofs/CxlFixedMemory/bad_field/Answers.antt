@@ -3,7 +3,6 @@ use mathlib.Core.Path.{◌≡◌}
 use mathlib.Core.Bool.{true, false}
 use Prim.Native.Nat.{ℕ}
 use native.Mathlib.Omega.{arith}
-use borrow.Author.Rules.{rules}
 use borrow.Author.Tests.{le-leb, lt-leb, lt-ltb, le-ltb}
 use lib.Dec.{ltb}
 use Rattle.format.specs.Form.{ranges}
@@ -18,6 +17,7 @@ some-way : {x y : ℕ} → x ≡ y → (x ≡ 0 → ⊥) → ltb 0 y ≡ true
 some-way {x} {y} e h = lt-ltb 0 y (omega arith)
 
 pub returns-then-num_interleaved_ways-eq0 : goal.returns-then-num_interleaved_ways-eq0
+unfolding bad_field first_bad body ranges
 returns-then-num_interleaved_ways-eq0 c = rw (no_way c.num_interleaved_ways.ensures c.if-num_interleaved_ways-eq0.true)
 
 pub returns-then-self-gt-MAX_ARITHMETIC : goal.returns-then-self-gt-MAX_ARITHMETIC

@@ -1,5 +1,4 @@
 -- `CxlFixedMemory::new` meets its contract: what the enums stand for, and the fields as they are given.
-use borrow.Author.Rules.{rules}
 use Rattle.cedt.proofs.CxlFixedMemory.new.Goals as goal
 
 pub returns : goal.returns

@@ -1,6 +1,5 @@
 -- `CxlFixedMemory::put` meets its contract: the fields before the targets, and zeros behind them.
 use native.Mathlib.Omega.{arith}
-use borrow.Author.Rules.{rules}
 use Rattle.laws.proofs.Bytes.{over-next}
 use Rattle.laws.proofs.Over.{over-at}
 use Rattle.cedt.proofs.Windows.{length_front, fresh}

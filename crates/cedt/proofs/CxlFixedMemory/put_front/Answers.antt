@@ -1,5 +1,4 @@
 -- `CxlFixedMemory::put_front` meets its contract: the numbers that it writes are those of the layout.
-use borrow.Author.Rules.{rules}
 use Rattle.format.specs.Form.{layout}
 use Rattle.laws.proofs.Joins.{lay-join}
 use Rattle.cedt.specs.Cedt.{window_front}

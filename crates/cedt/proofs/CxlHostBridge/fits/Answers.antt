@@ -4,4 +4,5 @@ use Rattle.format.specs.Row.{column}
 use Rattle.cedt.proofs.CxlHostBridge.fits.Goals as goal
 
 pub returns : goal.returns
+unfolding column
 returns c = refl

@@ -1,5 +1,4 @@
 -- `CxlHostBridge::from_body` meets its contract: each field stands at its offset.
-use borrow.Author.Rules.{rules}
 use Rattle.format.specs.Kind.{Bridge, body}
 use Rattle.laws.proofs.Fields.{fields-now}
 use Rattle.cedt.proofs.CxlHostBridge.from_body.Goals as goal

@@ -1,5 +1,4 @@
 -- `CxlHostBridge::new` meets its contract: what the version stands for, and the fields as they are given.
-use borrow.Author.Rules.{rules}
 use Rattle.cedt.proofs.CxlHostBridge.new.Goals as goal
 
 pub returns : goal.returns

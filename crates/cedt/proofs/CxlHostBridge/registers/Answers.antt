@@ -1,6 +1,5 @@
 -- `CxlHostBridge::registers` meets its contract: each version has the registers of its number.
 use mathlib.Core.Path.{sym, ◌∙◌}
-use borrow.Author.Rules.{rules}
 use borrow.Author.Tests.{eq-eqb, ne_eqb}
 use Rattle.format.specs.Form.{registers}
 use Rattle.cedt.proofs.CxlHostBridge.registers.Goals as goal

@@ -1,5 +1,4 @@
 -- `CxlTarget::from_body` meets its contract: the one field stands at the start.
-use borrow.Author.Rules.{rules}
 use Rattle.format.specs.Kind.{WindowTarget, body}
 use Rattle.laws.proofs.Fields.{fields-now}
 use Rattle.cedt.proofs.CxlTarget.from_body.Goals as goal

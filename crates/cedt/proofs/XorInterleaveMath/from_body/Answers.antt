@@ -1,5 +1,4 @@
 -- `XorInterleaveMath::from_body` meets its contract: the one field stands at the start.
-use borrow.Author.Rules.{rules}
 use Rattle.format.specs.Kind.{Xor, body}
 use Rattle.laws.proofs.Fields.{body_at}
 use Rattle.cedt.proofs.XorInterleaveMath.from_body.Goals as goal

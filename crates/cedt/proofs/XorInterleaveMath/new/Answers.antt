@@ -1,5 +1,4 @@
 -- `XorInterleaveMath::new` meets its contract: what the granularity stands for, and no maps.
-use borrow.Author.Rules.{rules}
 use Rattle.cedt.proofs.XorInterleaveMath.new.Goals as goal
 
 pub returns : goal.returns

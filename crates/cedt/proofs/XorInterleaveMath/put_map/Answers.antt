@@ -1,6 +1,5 @@
 -- `XorInterleaveMath::put_map` meets its contract: one number at its place.
 use native.Mathlib.Omega.{arith}
-use borrow.Author.Rules.{rules}
 use Rattle.laws.proofs.Over.{over-at}
 use Rattle.cedt.proofs.XorInterleaveMath.put_map.Goals as goal
 

@@ -1,6 +1,5 @@
 -- `XorInterleaveMath::xormap` meets its contract: the number at its place.
 use native.Mathlib.Omega.{arith}
-use borrow.Author.Rules.{rules}
 use Rattle.laws.proofs.Over.{value-at}
 use Rattle.cedt.proofs.XorInterleaveMath.xormap.Goals as goal
 

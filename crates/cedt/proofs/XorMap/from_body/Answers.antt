@@ -1,5 +1,4 @@
 -- `XorMap::from_body` meets its contract: the one field stands at the start.
-use borrow.Author.Rules.{rules}
 use Rattle.format.specs.Kind.{Map, body}
 use Rattle.laws.proofs.Fields.{fields-now}
 use Rattle.cedt.proofs.XorMap.from_body.Goals as goal

@@ -1,7 +1,5 @@
 -- `GenericInitiator::bad_field` meets its contract: the handle's fields, then the flags.
-use borrow.Author.Rules.{rules}
 use borrow.Author.Tests.{eq-eqb, ne_eqb}
-use Rattle.laws.proofs.Fields.{failed, passed}
 use Rattle.srat.proofs.Laws.{initiator-bad}
 use Rattle.srat.proofs.GenericInitiator.bad_field.Goals as goal
 
@@ -10,8 +8,8 @@ returns-then-bad-ne0 c = rw (initiator-bad, ← c.bad_field-bad.ensures, ne_eqb 
 
 pub returns-then-not-is_good_flags : goal.returns-then-not-is_good_flags
 returns-then-not-is_good_flags c =
-    rw (initiator-bad, ← c.bad_field-bad.ensures, eq-eqb _ _ c.if-bad-ne0.false, failed c.is_good_flags.ensures c.if-not-is_good_flags.true, c.flags_place.ensures)
+    rw (initiator-bad, ← c.bad_field-bad.ensures, eq-eqb _ _ c.if-bad-ne0.false, ← c.is_good_flags.ensures, c.if-not-is_good_flags.true, c.flags_place.ensures)
 
 pub returns : goal.returns
 returns c =
-    rw (initiator-bad, ← c.bad_field-bad.ensures, eq-eqb _ _ c.if-bad-ne0.false, passed c.is_good_flags.ensures c.if-not-is_good_flags.false)
+    rw (initiator-bad, ← c.bad_field-bad.ensures, eq-eqb _ _ c.if-bad-ne0.false, ← c.is_good_flags.ensures, c.if-not-is_good_flags.false)

@@ -1,5 +1,4 @@
 -- `GenericInitiator::fields_count` meets its contract: each handle has its number of fields.
-use borrow.Author.Rules.{rules}
 use Rattle.srat.proofs.GenericInitiator.fields_count.Goals as goal
 
 pub returns-in-Acpi : goal.returns-in-Acpi

@@ -1,5 +1,4 @@
 -- `GenericInitiator::from_pci_body` meets its contract: each field stands at its offset.
-use borrow.Author.Rules.{rules}
 use Rattle.format.specs.Kind.{Pci, body}
 use Rattle.laws.proofs.Fields.{body_at}
 use Rattle.srat.proofs.GenericInitiator.from_pci_body.Goals as goal

@@ -1,5 +1,4 @@
 -- `GenericInitiator::get` meets its contract: the byte of the handle says the form, and each field stands at its offset.
-use borrow.Author.Rules.{rules}
 use borrow.Author.Tests.{eq-eqb, ne_eqb}
 use Rattle.format.specs.Form.{layout}
 use Rattle.laws.proofs.Offsets.{node_at_lem}

@@ -1,13 +1,11 @@
 -- `GenericInitiator::is_sound` meets its contract: the law of an initiator's ranges, whose byte of device and function is one of the row.
-use borrow.Author.Rules.{rules}
-use Rattle.laws.proofs.Fields.{failed, passed}
 use Rattle.srat.proofs.Laws.{initiator-sound}
 use Rattle.srat.proofs.GenericInitiator.is_sound.Goals as goal
 
 pub returns-then-not-is_fixed : goal.returns-then-not-is_fixed
 returns-then-not-is_fixed c =
-    rw (initiator-sound c.args.row.now (c.shared_slice_known-1.given 11).fits, failed c.is_fixed.ensures c.if-not-is_fixed.true)
+    rw (initiator-sound c.args.row.now (c.type_inv.row 11).fits, ← c.is_fixed.ensures, c.if-not-is_fixed.true)
 
 pub returns : goal.returns
 returns c =
-    rw (initiator-sound c.args.row.now (c.shared_slice_known-1.given 11).fits, passed c.is_fixed.ensures c.if-not-is_fixed.false, ← c.get_u32.ensures, c.is_good_flags.ensures)
+    rw (initiator-sound c.args.row.now (c.type_inv.row 11).fits, ← c.is_fixed.ensures, c.if-not-is_fixed.false, ← c.get_u32.ensures, c.is_good_flags.ensures)

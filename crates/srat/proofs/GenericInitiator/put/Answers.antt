@@ -1,5 +1,4 @@
 -- `GenericInitiator::put` meets its contract: the record of its handle.
-use borrow.Author.Rules.{rules}
 use Rattle.srat.proofs.GenericInitiator.put.Goals as goal
 
 pub returns-in-Acpi : goal.returns-in-Acpi

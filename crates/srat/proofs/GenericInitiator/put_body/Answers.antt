@@ -1,5 +1,4 @@
 -- `GenericInitiator::put_body` meets its contract: kind and body of its handle.
-use borrow.Author.Rules.{rules}
 use Rattle.srat.proofs.GenericInitiator.put_body.Goals as goal
 
 pub returns-in-Acpi : goal.returns-in-Acpi

@@ -1,5 +1,4 @@
 -- `GenericInitiator::put_fields` meets its contract: each handle's fields are its own.
-use borrow.Author.Rules.{rules}
 use Rattle.srat.proofs.GenericInitiator.put_fields.Goals as goal
 
 pub returns-in-Acpi : goal.returns-in-Acpi

@@ -1,6 +1,5 @@
 -- `GenericInitiator::put_pci` meets its contract: the numbers that it writes are those of the layout; of device and function one byte counts.
 use mathlib.Core.Path.{◌∙◌}
-use borrow.Author.Rules.{rules}
 use Rattle.format.specs.Bytes.{join}
 use Rattle.format.specs.Form.{layout}
 use Rattle.format.specs.Node.{bytes}

@@ -1,5 +1,4 @@
 -- `Handle::bad_field` meets its contract: of a PCI device, device and function have ranges.
-use borrow.Author.Rules.{rules}
 use borrow.Author.Tests.{le-leb, lt-leb}
 use Rattle.format.specs.Kind.{body}
 use Rattle.format.specs.Field.{first_bad}
@@ -9,6 +8,7 @@ pub returns-in_default : goal.returns-in_default
 returns-in_default c = rw c.in_default.is
 
 pub returns-then-device-gt-MAX_DEVICE : goal.returns-then-device-gt-MAX_DEVICE
+unfolding first_bad body
 returns-then-device-gt-MAX_DEVICE c = rw (c.in-Pci.is, lt-leb _ 31 c.if-device-gt-MAX_DEVICE.true)
 
 pub returns-then-function-gt-MAX_FUNCTION : goal.returns-then-function-gt-MAX_FUNCTION

@@ -1,14 +1,17 @@
 -- `Handle::is_fixed` meets its contract, by the handle type.
-use borrow.Author.Rules.{rules}
+use native.Mathlib.Omega.{arith}
 use borrow.Author.Tests.{ne_eqb}
 use Rattle.srat.specs.Srat.{handle_fixed}
 use Rattle.srat.proofs.Handle.is_fixed.Goals as goal
 
 pub returns-in-0 : goal.returns-in-0
+unfolding handle_fixed
 returns-in-0 c = rw (← c.get_u8.ensures, c.in-0.is, c.get_u32.ensures)
 
 pub returns-in-1 : goal.returns-in-1
+unfolding handle_fixed
 returns-in-1 c = rw (← c.get_u8.ensures, c.in-1.is) c.is_pci_fixed.ensures
 
 pub returns-in_default : goal.returns-in_default
-returns-in_default c = rw (← c.get_u8.ensures, ne_eqb _ 0 c.in_default.in_default-own.rest.0.1, ne_eqb _ 1 c.in_default.in_default-own.rest.1)
+unfolding handle_fixed
+returns-in_default c = rw (← c.get_u8.ensures, ne_eqb c.get_u8.result 0 (omega arith), ne_eqb c.get_u8.result 1 (omega arith))

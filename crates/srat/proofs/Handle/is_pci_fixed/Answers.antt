@@ -1,5 +1,4 @@
 -- `Handle::is_pci_fixed` meets its contract: four and eight bytes are twelve.
-use borrow.Author.Rules.{rules}
 use Rattle.laws.proofs.Fields.{differs, equals, zeros-parts}
 use Rattle.srat.proofs.Handle.is_pci_fixed.Goals as goal
 

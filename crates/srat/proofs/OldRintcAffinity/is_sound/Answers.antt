@@ -1,12 +1,10 @@
 -- `OldRintcAffinity::is_sound` meets its contract: a record is sound where its fixed values are, and its flags are in their range.
-use borrow.Author.Rules.{rules}
-use Rattle.laws.proofs.Fields.{failed, passed}
 use Rattle.srat.proofs.Laws.{old-rintc-sound}
 use Rattle.srat.proofs.OldRintcAffinity.is_sound.Goals as goal
 
 pub returns-then-not-is_fixed : goal.returns-then-not-is_fixed
-returns-then-not-is_fixed c = rw (old-rintc-sound, failed c.is_fixed.ensures c.if-not-is_fixed.true)
+returns-then-not-is_fixed c = rw (old-rintc-sound, ← c.is_fixed.ensures, c.if-not-is_fixed.true)
 
 pub returns : goal.returns
 returns c =
-    rw (old-rintc-sound, passed c.is_fixed.ensures c.if-not-is_fixed.false, c.get_u32.ensures)
+    rw (old-rintc-sound, ← c.is_fixed.ensures, c.if-not-is_fixed.false, c.get_u32.ensures)

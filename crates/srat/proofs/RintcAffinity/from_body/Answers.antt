@@ -1,5 +1,4 @@
 -- `RintcAffinity::from_body` meets its contract: each field stands at its offset.
-use borrow.Author.Rules.{rules}
 use Rattle.format.specs.Kind.{Rintc, body}
 use Rattle.laws.proofs.Fields.{body_at}
 use Rattle.srat.proofs.RintcAffinity.from_body.Goals as goal

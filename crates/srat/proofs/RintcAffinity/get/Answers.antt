@@ -1,5 +1,4 @@
 -- `RintcAffinity::get` meets its contract: each field stands at its offset.
-use borrow.Author.Rules.{rules}
 use Rattle.format.specs.Form.{layout}
 use Rattle.laws.proofs.Offsets.{node_at_lem}
 use Rattle.srat.proofs.RintcAffinity.get.Goals as goal
