@@ -1,6 +1,5 @@
 -- `behind_line` meets its contract: nothing of no bytes; else the words, the number behind them and the end of the line.
 use mathlib.Core.Path.{◌∙◌}
-use borrow.Author.Rules.{rules}
 use borrow.Author.Tests.{eq-eqb, ne_eqb}
 use Rattle.text.proofs.Laws.{laid-behind}
 use Rattle.sums.specs.Lines.{behind_line}

@@ -1,6 +1,5 @@
 -- `checked` meets its contract: no table, or the words for its checksum and for what stands behind it.
 use mathlib.Core.Path.{◌∙◌}
-use borrow.Author.Rules.{rules}
 use Rattle.text.proofs.Laws.{laid_next}
 use Rattle.sums.specs.Lines.{checked}
 use Rattle.sums.proofs.checked.Goals as goal

@@ -1,5 +1,4 @@
 -- `entire` meets its contract: the length, once below a header and once past the end.
-use borrow.Author.Rules.{rules}
 use borrow.Author.Tests.{le-leb, lt-leb}
 use Rattle.sums.proofs.entire.Goals as goal
 

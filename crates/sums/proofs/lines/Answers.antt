@@ -1,6 +1,5 @@
 -- `lines` meets its contract: the words of the sum, what is left of it, and the lines about the checksum, one behind the other.
 use mathlib.Core.Path.{◌∙◌}
-use borrow.Author.Rules.{rules}
 use Rattle.field.proofs.Parts.{whole-number}
 use Rattle.text.proofs.Laws.{laid-behind}
 use Rattle.sums.specs.Lines.{lines_of}

@@ -1,6 +1,5 @@
 -- `verdict` meets its contract: the words for each way.
 use mathlib.Core.Path.{◌∙◌}
-use borrow.Author.Rules.{rules}
 use Rattle.sums.proofs.verdict.Goals as goal
 
 pub returns-then-right : goal.returns-then-right

@@ -1,10 +1,7 @@
 -- The answers that the search does not find.
-use mathlib.Core.Path.{◌≡◌, refl, sym, ◌∙◌}
-use Prim.Native.Nat.{◌-◌, ◌≤◌}
+use mathlib.Core.Path.{refl, sym, ◌∙◌}
 use borrow.Author.Rules.{rules}
 use borrow.Author.Tests.{eq-eqb, ne_eqb}
-use lib.ListN.{length, drop}
-use Rattle.talk.specs.Hex.{all_are}
 use Rattle.talk.proofs.Turns.{are-turn, are-end}
 use Rattle.talk.proofs.all_are.Goals as goal
 

@@ -1,11 +1,8 @@
 -- `talk::all_are` meets its contract. The invariant: all are v if all that the loop has not passed yet are.
-use mathlib.Core.Path.{◌≡◌, refl, sym, ◌∙◌}
+use mathlib.Core.Path.{◌≡◌}
 use Prim.Native.Nat.{◌-◌, ◌≤◌}
-use borrow.Author.Rules.{rules}
-use borrow.Author.Tests.{eq-eqb, ne_eqb}
 use lib.ListN.{length, drop}
 use Rattle.talk.specs.Hex.{all_are}
-use Rattle.talk.proofs.Turns.{are-turn, are-end}
 use Rattle.talk.proofs.all_are.Given as goal
 
 abbrev pub invariant-loop-i : goal.invariant-loop-i

@@ -1,6 +1,5 @@
 -- `talk::behind` meets its contract: what is left from the first space on, and of that what follows its first byte.
 use mathlib.Core.Path.{◌∙◌}
-use borrow.Author.Rules.{rules}
 use Rattle.talk.proofs.behind.Goals as goal
 
 pub returns : goal.returns

@@ -1,7 +1,6 @@
 -- `talk::count` meets its contract: its tests are the definition's, in that order.
 use borrow.Author.Tests.{le-ltb, lt-ltb, eq-eqb, ne_eqb}
 use Rattle.talk.specs.Hex.{data_in}
-use borrow.Author.Rules.{rules}
 use Rattle.talk.proofs.count.Goals as goal
 
 pub returns-then-same : goal.returns-then-same

@@ -1,9 +1,6 @@
 -- The answers that the search does not find.
-use mathlib.Core.Path.{◌≡◌, sym, ◌∙◌}
-use Prim.Native.Nat.{◌-◌, ◌≤◌}
+use mathlib.Core.Path.{sym, ◌∙◌}
 use borrow.Author.Rules.{rules}
-use lib.ListN.{length, drop}
-use Rattle.talk.specs.Numbers.{number_from, number_in}
 use Rattle.talk.proofs.Turns.{number-none, number-some, number-turn, number-end}
 use Rattle.talk.proofs.decimal.Goals as goal
 

@@ -1,10 +1,8 @@
 -- `talk::decimal` meets its contract. The invariant: the number so far and the digits that the loop has not passed yet give the answer.
-use mathlib.Core.Path.{◌≡◌, sym, ◌∙◌}
+use mathlib.Core.Path.{◌≡◌}
 use Prim.Native.Nat.{◌-◌, ◌≤◌}
-use borrow.Author.Rules.{rules}
 use lib.ListN.{length, drop}
 use Rattle.talk.specs.Numbers.{number_from, number_in}
-use Rattle.talk.proofs.Turns.{number-none, number-some, number-turn, number-end}
 use Rattle.talk.proofs.decimal.Given as goal
 
 abbrev pub invariant-loop-i : goal.invariant-loop-i

@@ -1,6 +1,5 @@
 -- `talk::named` meets its contract: one comparison for each call's name.
 use Rattle.talk.specs.Words.{call_in}
-use borrow.Author.Rules.{rules}
 use Rattle.talk.proofs.named.Goals as goal
 
 pub returns-then-same : goal.returns-then-same

@@ -1,6 +1,5 @@
 -- `talk::pair` meets its contract: the values of both digits.
 use Rattle.talk.specs.Hex.{pair_of}
-use borrow.Author.Rules.{rules}
 use Rattle.talk.proofs.pair.Goals as goal
 
 pub returns : goal.returns

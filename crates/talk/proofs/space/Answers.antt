@@ -1,11 +1,11 @@
 -- The answers that the search does not find.
 use mathlib.Core.Path.{◌≡◌, sym, ◌∙◌}
-use Prim.Native.Nat.{suc, ◌+◌, ◌-◌, ◌≤◌}
+use Prim.Native.Nat.{suc, ◌+◌}
 use native.Mathlib.Nat.{zero-add}
 use native.Mathlib.Omega.{arith}
 use borrow.Author.Rules.{rules}
 use borrow.Author.Tests.{eq-eqb, ne_eqb}
-use lib.ListN.{length, drop}
+use lib.ListN.{drop}
 use Rattle.talk.specs.Words.{space_in}
 use Rattle.talk.proofs.Turns.{space-turn, space-end}
 use Rattle.talk.proofs.space.Goals as goal

@@ -1,13 +1,8 @@
 -- `talk::space` meets its contract. The invariant: the first space of what the loop has not passed yet is the first of all.
-use mathlib.Core.Path.{◌≡◌, sym, ◌∙◌}
-use Prim.Native.Nat.{suc, ◌+◌, ◌-◌, ◌≤◌}
-use native.Mathlib.Nat.{zero-add}
-use native.Mathlib.Omega.{arith}
-use borrow.Author.Rules.{rules}
-use borrow.Author.Tests.{eq-eqb, ne_eqb}
+use mathlib.Core.Path.{◌≡◌}
+use Prim.Native.Nat.{◌+◌, ◌-◌, ◌≤◌}
 use lib.ListN.{length, drop}
 use Rattle.talk.specs.Words.{space_in}
-use Rattle.talk.proofs.Turns.{space-turn, space-end}
 use Rattle.talk.proofs.space.Given as goal
 
 abbrev pub invariant-loop-i : goal.invariant-loop-i

@@ -3,7 +3,6 @@ use Prim.Native.Nat.{◌+◌, ◌*◌, ◌-◌}
 use native.Mathlib.Omega.{arith}
 use borrow.Author.Tests.{le-ltb, lt-ltb, le-leb, lt-leb}
 use Rattle.talk.specs.Numbers.{step_to}
-use borrow.Author.Rules.{rules}
 use Rattle.talk.proofs.step.Goals as goal
 
 pub returns-then-b-lt48 : goal.returns-then-b-lt48

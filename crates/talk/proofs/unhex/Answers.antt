@@ -1,12 +1,9 @@
 -- The answers that the search does not find.
-use mathlib.Core.Path.{◌≡◌, refl, sym, ◌∙◌}
-use Prim.Native.Nat.{◌*◌, ◌-◌, ◌≤◌}
+use mathlib.Core.Path.{refl, sym, ◌∙◌}
 use native.Mathlib.Omega.{arith}
 use borrow.Author.Rules.{rules}
-use lib.ListN.{length, drop, length-set}
-use Rattle.format.specs.Bytes.{over}
+use lib.ListN.{length-set}
 use Rattle.laws.proofs.Bytes.{over-past}
-use Rattle.talk.specs.Hex.{pairs}
 use Rattle.talk.proofs.Turns.{unhex-turn, unhex-end}
 use Rattle.talk.proofs.unhex.Goals as goal
 

@@ -1,13 +1,9 @@
 -- `talk::unhex` meets its contract. The invariant: the bytes still to come, laid over what there is, give the answer.
-use mathlib.Core.Path.{◌≡◌, refl, sym, ◌∙◌}
+use mathlib.Core.Path.{◌≡◌}
 use Prim.Native.Nat.{◌*◌, ◌-◌, ◌≤◌}
-use native.Mathlib.Omega.{arith}
-use borrow.Author.Rules.{rules}
-use lib.ListN.{length, drop, length-set}
+use lib.ListN.{length, drop}
 use Rattle.format.specs.Bytes.{over}
-use Rattle.laws.proofs.Bytes.{over-past}
 use Rattle.talk.specs.Hex.{pairs}
-use Rattle.talk.proofs.Turns.{unhex-turn, unhex-end}
 use Rattle.talk.proofs.unhex.Given as goal
 
 abbrev pub invariant-loop-i : goal.invariant-loop-i

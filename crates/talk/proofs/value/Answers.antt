@@ -1,7 +1,6 @@
 -- `talk::value` meets its contract: its tests are the definition's.
 use borrow.Author.Tests.{le-ltb, lt-ltb, le-leb, lt-leb}
 use Rattle.talk.specs.Hex.{value_of}
-use borrow.Author.Rules.{rules}
 use Rattle.talk.proofs.value.Goals as goal
 
 pub returns-then-b-lt48 : goal.returns-then-b-lt48

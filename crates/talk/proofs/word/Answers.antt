@@ -1,7 +1,6 @@
 -- `talk::word` meets its contract: the part that ends at the first space.
 use mathlib.Core.Path.{sym}
 use native.Mathlib.Omega.{arith}
-use borrow.Author.Rules.{rules}
 use lib.Seq.{length-take-le}
 use Rattle.talk.proofs.word.Goals as goal
 

@@ -1,6 +1,7 @@
 -- `text::decimal` meets its contract: a tenth of the number is laid first, and its last digit behind that.
 use mathlib.Core.Path.{◌∙◌}
 use native.Mathlib.Omega.{arith}
+use borrow.Author.Rules.{rules}
 use Rattle.text.proofs.Laws.{laid_next}
 use Rattle.text.proofs.Digits.{digits-one, digits_more}
 use Rattle.text.proofs.+decimal.Goals as goal
@@ -9,6 +10,4 @@ pub returns-then-v-lt10 : goal.returns-then-v-lt10
 returns-then-v-lt10 t c = c.byte.ensures ∙ rw (digits-one c.args.v (omega arith))
 
 pub returns : goal.returns
-returns t c =
-    let a = c.args in
-    laid_next a.out.now a.n _ _ c.decimal-m.ensures c.byte-2.ensures ∙ rw (digits_more 18 a.v (omega arith) (omega arith))
+returns t c = rw (digits_more 18 c.args.v (omega arith) (omega arith)) (search (rules, laid_next))
