@@ -399,6 +399,7 @@ impl SystemLocality {
         self
     }
 
+    // The product of two numbers of four bytes fits eight.
     fn cells(self) -> usize
         ensures { result ≡ self.initiators * self.targets }
     {
@@ -490,6 +491,7 @@ impl SystemLocality {
     }
 
     // The same, of the matrix whose first cell starts at a place: cell (i, t) is entry i times T plus t.
+    // A product of two numbers of four bytes and a third of them fit eight.
     pub fn entry_place(cells: usize, targets: u32, i: u32, t: u32) -> usize
         ensures { result ≡ min (cells + 2 * (i * targets + t)) (2 ^ 64 - 1) }
     {
@@ -589,6 +591,7 @@ impl SystemLocality {
     }
 
     // The Length column of the row, 6 or 12: more initiators or targets than the most make a record unknown, not faulty.
+    #[tactic(auto, unfolding(format::specs::Row::column))]
     pub fn fits(width: Width, row: &[u8]) -> bool
         ensures { result ≡ column (matrices (meant_width width)) row.now }
     {
@@ -723,6 +726,7 @@ impl SystemLocality {
     }
 
     // Bits 0 and 1, 4 and 5, the rest 0.
+    #[tactic(auto, unfolding(format::specs::Form::matrix_flags))]
     fn is_good_flags(v: u8) -> bool
         ensures { result ≡ matrix_flags v }
     {
@@ -733,6 +737,7 @@ impl SystemLocality {
     }
 
     // The place of the first field outside its range, counted from the kind byte; 0 for none.
+    #[tactic(auto, unfolding(format::specs::Field::bad_field, format::specs::Field::first_bad, format::specs::Kind::body, format::specs::Form::ranges))]
     pub fn bad_field(self) -> usize
         ensures { result ≡ bad_field (matrix_head self) }
     {
@@ -865,6 +870,7 @@ impl Value {
     }
 
     // The place of the index where it is not below the count, from the kind byte; 0 where it is.
+    #[tactic(auto, unfolding(format::specs::Field::first_bad, format::specs::Kind::body))]
     pub fn bad_field(self, count: u32) -> usize
         ensures { (w : form.Width) → result ≡ bad_in (Initiator w) (ltb self.idx count ∷ []) }
     {
@@ -923,6 +929,7 @@ impl Cell {
     }
 
     // The number of bytes that follow it.
+    #[tactic(auto, unfolding(format::specs::Layout::width, format::specs::Kind::body))]
     pub fn body_len(width: Width) -> usize
         ensures { result ≡ items.width (body (format.Cell (meant_width width))) }
     {
@@ -986,6 +993,7 @@ impl Cell {
     }
 
     // The place of the first index that is not below its count, from the kind byte; 0 where both are.
+    #[tactic(auto, unfolding(format::specs::Field::first_bad, format::specs::Kind::body))]
     pub fn bad_field(self, width: Width, initiators: u32, targets: u32) -> usize
         ensures { result ≡ bad_in (format.Cell (meant_width width)) (ltb self.initiator_idx initiators ∷ ltb self.target_idx targets ∷ []) }
     {
@@ -1140,6 +1148,7 @@ impl MemorySideCache {
     // Type, 2 zero, length, domain, 4 zero, size, attributes, 2 zero, n.
     const WIDTHS: [usize; 9] = [2, 2, 4, 4, 4, 8, 4, 2, 2];
 
+    // The numbers of the attributes are shifted past each other: joined, they are added.
     pub fn new(
         proximity_domain: u32,
         cache_size: u64,
@@ -1244,6 +1253,7 @@ impl MemorySideCache {
         SmbiosHandle(field::get_u16(table, Self::handle_place(at, i)))
     }
     // The Length column of the row.
+    #[tactic(auto, unfolding(format::specs::Row::column))]
     pub fn fits(row: &[u8]) -> bool
         ensures { result ≡ column sides row.now }
     {
@@ -1341,6 +1351,7 @@ impl MemorySideCache {
     }
 
     // Levels, associativity and policy in their ranges.
+    #[tactic(auto, unfolding(format::specs::Form::side_attributes))]
     fn is_good_attributes(self) -> bool
         ensures { result ≡ side_attributes self.attributes }
     {
@@ -1357,6 +1368,7 @@ impl MemorySideCache {
     }
 
     // The place of the first field outside its range, counted from the kind byte; 0 for none.
+    #[tactic(auto, unfolding(format::specs::Field::bad_field, format::specs::Field::first_bad, format::specs::Kind::body, format::specs::Form::ranges))]
     pub fn bad_field(self) -> usize
         ensures { result ≡ bad_field (side_head self) }
     {

@@ -1,5 +1,4 @@
 -- `Cell::from_body` meets its contract: each field stands at its offset, in either width.
-use borrow.Author.Rules.{rules}
 use Rattle.hmat.proofs.Bodies.{cell-fields}
 use Rattle.hmat.proofs.Cell.from_body.Goals as goal
 

@@ -1,5 +1,4 @@
 -- `Cell::is_inside` meets its contract: no index is bad where both are below their counts.
-use borrow.Author.Rules.{rules}
 use Rattle.hmat.proofs.Bodies.{cell-inside}
 use Rattle.hmat.proofs.Cell.is_inside.Goals as goal
 

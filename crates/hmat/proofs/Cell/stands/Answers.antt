@@ -3,31 +3,16 @@ use mathlib.Core.Path.{◌≡◌}
 use Prim.Native.Nat.{suc, ◌+◌, ◌-◌}
 use native.Mathlib.Omega.{arith}
 use lib.ListN.{length, drop}
-use borrow.Author.Rules.{rules}
-use borrow.Author.Tests.{le-leb, lt-leb, eq-eqb, ne_eqb}
+use borrow.Author.Tests.{le-leb, eq-eqb}
 use Rattle.format.specs.Layout.{width}
 use Rattle.format.specs.Form.{byte, pair}
 use Rattle.format.specs.Kind.{Cell, body}
-use Rattle.laws.proofs.Tests.{both_false}
 use Rattle.hmat.specs.Widths.{meant_width}
 use Rattle.hmat.proofs.Bodies.{cell-small, window-inside}
 use Rattle.hmat.proofs.Cell.stands.Goals as goal
 
-pub returns-then-recipe-at : goal.returns-then-recipe-at
-returns-then-recipe-at c =
-    let a = c.args in
-    rw (lt-leb (suc a.at + width (body (Cell (meant_width a.width)))) (length a.recipe.now) (omega (arith, c.if-recipe-at.true)), both_false)
-
 pub overflow_add-body_len : goal.overflow_add-body_len
 overflow_add-body_len c = omega (arith, c.body_len.ensures, cell-small (meant_width c.args.width))
-
-pub returns-then-recipe-at-2 : goal.returns-then-recipe-at-2
-returns-then-recipe-at-2 c =
-    let a = c.args in
-    rw (lt-leb (suc a.at + width (body (Cell (meant_width a.width)))) (length a.recipe.now) (omega (arith, c.if-recipe-at-2.true, c.body_len.ensures)), both_false)
-
-pub returns-then-recipe-at-3 : goal.returns-then-recipe-at-3
-returns-then-recipe-at-3 c = rw (← c.kind.ensures, ne_eqb _ _ c.if-recipe-at-3.true)
 
 pub slice_bounds-is_inside-end : goal.slice_bounds-is_inside-end
 unfolding width body

@@ -1,5 +1,4 @@
 -- `MemoryProximityDomain::from_body` meets its contract: each field stands at its offset.
-use borrow.Author.Rules.{rules}
 use Rattle.format.specs.Kind.{Domain, body}
 use Rattle.laws.proofs.Fields.{body_at}
 use Rattle.hmat.proofs.MemoryProximityDomain.from_body.Goals as goal

@@ -1,5 +1,4 @@
 -- `MemoryProximityDomain::get` meets its contract: the layout read by places.
-use borrow.Author.Rules.{rules}
 use Rattle.format.specs.Form.{layout}
 use Rattle.laws.proofs.Offsets.{node_at_lem}
 use Rattle.hmat.proofs.MemoryProximityDomain.get.Goals as goal

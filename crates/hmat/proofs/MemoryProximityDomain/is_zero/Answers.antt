@@ -1,5 +1,4 @@
 -- `MemoryProximityDomain::is_zero` meets its contract: four, eight and eight bytes are twenty.
-use borrow.Author.Rules.{rules}
 use Rattle.laws.proofs.Tests.{both_false}
 use Rattle.laws.proofs.Fields.{differs, equals, zeros-parts}
 use Rattle.hmat.proofs.MemoryProximityDomain.is_zero.Goals as goal

@@ -1,5 +1,4 @@
 -- `MemoryProximityDomain::put` meets its contract: the numbers that it writes are those of the layout.
-use borrow.Author.Rules.{rules}
 use Rattle.format.specs.Form.{layout}
 use Rattle.format.specs.Node.{bytes}
 use Rattle.laws.proofs.Joins.{lay-join}

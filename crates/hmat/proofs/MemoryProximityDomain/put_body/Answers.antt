@@ -1,6 +1,5 @@
 -- `MemoryProximityDomain::put_body` meets its contract: the numbers that it writes are those of the call.
 use mathlib.Core.Path.{sym}
-use borrow.Author.Rules.{rules}
 use Rattle.format.specs.Layout.{width}
 use Rattle.format.specs.Kind.{Domain, body}
 use Rattle.format.specs.Normal.{calls}

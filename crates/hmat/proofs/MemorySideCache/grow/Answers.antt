@@ -2,7 +2,6 @@
 use mathlib.Core.Path.{◌≡◌}
 use Prim.Native.Nat.{◌+◌, ◌%◌}
 use native.Mathlib.Omega.{arith}
-use borrow.Author.Rules.{rules}
 use Rattle.format.specs.Bytes.{le}
 use Rattle.laws.proofs.Bytes.{le-mod}
 use Rattle.hmat.specs.Hmat.{grown}

@@ -1,5 +1,4 @@
 -- `MemorySideCache::is_fixed` meets its contract, test by test.
-use borrow.Author.Rules.{rules}
 use Rattle.laws.proofs.Tests.{both_false}
 use Rattle.laws.proofs.Offsets.{form-known}
 use Rattle.laws.proofs.Fields.{differs, equals}

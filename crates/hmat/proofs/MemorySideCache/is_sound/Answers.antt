@@ -1,12 +1,11 @@
 -- `MemorySideCache::is_sound` meets its contract: the fields that `get` reads are those that have ranges.
-use borrow.Author.Rules.{rules}
-use Rattle.laws.proofs.Fields.{failed, passed, sound-node}
+use Rattle.laws.proofs.Fields.{sound-node}
 use Rattle.hmat.proofs.Fixed.{side-bad}
 use Rattle.hmat.proofs.MemorySideCache.is_sound.Goals as goal
 
 pub returns-then-not-is_fixed : goal.returns-then-not-is_fixed
-returns-then-not-is_fixed c = rw (sound-node, failed c.is_fixed.ensures c.if-not-is_fixed.true)
+returns-then-not-is_fixed c = rw (sound-node, ← c.is_fixed.ensures, c.if-not-is_fixed.true)
 
 pub returns : goal.returns
 returns c =
-    rw (sound-node, passed c.is_fixed.ensures c.if-not-is_fixed.false, side-bad, ← c.get.ensures, c.bad_field.ensures)
+    rw (sound-node, ← c.is_fixed.ensures, c.if-not-is_fixed.false, side-bad, ← c.get.ensures, c.bad_field.ensures)

@@ -1,5 +1,4 @@
 -- `MemorySideCache::put` meets its contract: the numbers that it writes are those of the layout.
-use borrow.Author.Rules.{rules}
 use Rattle.format.specs.Form.{layout}
 use Rattle.laws.proofs.Joins.{lay-join}
 use Rattle.hmat.specs.Hmat.{side_front}

@@ -1,6 +1,5 @@
 -- `MemorySideCache::put_handle` meets its contract: one number at its place.
 use native.Mathlib.Omega.{arith}
-use borrow.Author.Rules.{rules}
 use Rattle.laws.proofs.Over.{over-at}
 use Rattle.hmat.proofs.MemorySideCache.put_handle.Goals as goal
 

@@ -1,6 +1,5 @@
 -- `MemorySideCache::smbios_handle` meets its contract: the number at its place.
 use native.Mathlib.Omega.{arith}
-use borrow.Author.Rules.{rules}
 use Rattle.laws.proofs.Over.{value-at}
 use Rattle.hmat.proofs.MemorySideCache.smbios_handle.Goals as goal
 

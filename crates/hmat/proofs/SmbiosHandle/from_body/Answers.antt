@@ -1,5 +1,4 @@
 -- `SmbiosHandle::from_body` meets its contract: the one field stands at the start.
-use borrow.Author.Rules.{rules}
 use Rattle.format.specs.Kind.{Handle, body}
 use Rattle.laws.proofs.Fields.{fields-now}
 use Rattle.hmat.proofs.SmbiosHandle.from_body.Goals as goal

@@ -1,6 +1,5 @@
 -- `SmbiosHandle::put_body` meets its contract: the numbers that it writes are those of the call.
 use mathlib.Core.Path.{sym}
-use borrow.Author.Rules.{rules}
 use Rattle.format.specs.Layout.{width}
 use Rattle.format.specs.Kind.{Handle, body}
 use Rattle.laws.proofs.Fields.{call-join, length-call}

@@ -1,5 +1,4 @@
 -- `SystemLocality::from_body` meets its contract: each field stands at its offset, in either width.
-use borrow.Author.Rules.{rules}
 use Rattle.format.specs.Kind.{Matrix, body}
 use Rattle.laws.proofs.Fields.{fields-now}
 use Rattle.hmat.proofs.SystemLocality.from_body.Goals as goal

@@ -1,5 +1,4 @@
 -- `SystemLocality::get` meets its contract: the layout read by places.
-use borrow.Author.Rules.{rules}
 use Rattle.format.specs.Form.{layout}
 use Rattle.format.specs.Row.{form_in}
 use Rattle.laws.proofs.Offsets.{node_at_lem}

@@ -1,6 +1,5 @@
 -- `SystemLocality::initiator_value` meets its contract: the number at its place.
 use native.Mathlib.Omega.{arith}
-use borrow.Author.Rules.{rules}
 use Rattle.laws.proofs.Over.{value-at}
 use Rattle.hmat.proofs.SystemLocality.initiator_value.Goals as goal
 

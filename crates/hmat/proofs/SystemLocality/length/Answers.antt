@@ -1,6 +1,5 @@
 -- `SystemLocality::length` meets its contract: what is left out of the product is a multiple of what four bytes hold.
 use native.Mathlib.Omega.{arith}
-use borrow.Author.Rules.{rules}
 use Rattle.laws.proofs.Changes.{le_same}
 use Rattle.hmat.proofs.SystemLocality.length.Goals as goal
 

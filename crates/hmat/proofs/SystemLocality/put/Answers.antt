@@ -1,6 +1,5 @@
 -- `SystemLocality::put` meets its contract: the fields before the values, and the values and cells behind them.
 use native.Mathlib.Omega.{arith}
-use borrow.Author.Rules.{rules}
 use Rattle.laws.proofs.Bytes.{over-next}
 use Rattle.laws.proofs.Over.{over-at}
 use Rattle.hmat.proofs.Matrices.{length_front, fresh}

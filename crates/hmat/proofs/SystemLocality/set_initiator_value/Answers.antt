@@ -1,6 +1,5 @@
 -- `SystemLocality::set_initiator_value` meets its contract: one number at its place.
 use native.Mathlib.Omega.{arith}
-use borrow.Author.Rules.{rules}
 use Rattle.laws.proofs.Over.{over-at}
 use Rattle.hmat.proofs.SystemLocality.set_initiator_value.Goals as goal
 

@@ -1,6 +1,5 @@
 -- `SystemLocality::target_value` meets its contract: the number at its place.
 use native.Mathlib.Omega.{arith}
-use borrow.Author.Rules.{rules}
 use Rattle.laws.proofs.Over.{value-at}
 use Rattle.hmat.proofs.SystemLocality.target_value.Goals as goal
 

@@ -1,5 +1,4 @@
 -- `Value::from_body` meets its contract: each field stands at its offset, in either width.
-use borrow.Author.Rules.{rules}
 use Rattle.hmat.proofs.Bodies.{value-fields}
 use Rattle.hmat.proofs.Value.from_body.Goals as goal
 

@@ -10,10 +10,10 @@ pub returns-in-Byte : goal.returns-in-Byte
 unfolding width body
 returns-in-Byte c =
     let a = c.args in
-    (rw (value-join _ a.kind a.self (search rules), c.in-Byte.is) c.put_all.ensures, rw (length-call (Initiator _), c.in-Byte.is))
+    record { out_after = rw (value-join _ a.kind a.self (search rules), c.in-Byte.is) c.put_all.ensures; value = rw (length-call (Initiator _), c.in-Byte.is) }
 
 pub returns-in-Pair : goal.returns-in-Pair
 unfolding width body
 returns-in-Pair c =
     let a = c.args in
-    (rw (value-join _ a.kind a.self (search rules), c.in-Pair.is) c.put_all-in-Pair.ensures, rw (length-call (Initiator _), c.in-Pair.is))
+    record { out_after = rw (value-join _ a.kind a.self (search rules), c.in-Pair.is) c.put_all-in-Pair.ensures; value = rw (length-call (Initiator _), c.in-Pair.is) }

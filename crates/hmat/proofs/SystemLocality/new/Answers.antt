@@ -1,6 +1,0 @@
--- `SystemLocality::new` meets its contract: what the enums stand for, and the fields as they are given.
-use borrow.Author.Rules.{rules}
-use Rattle.hmat.proofs.SystemLocality.new.Goals as goal
-
-pub returns : goal.returns
-returns c = rw (c.number.ensures, c.number-2.ensures, c.number-3.ensures)

@@ -1,9 +1,0 @@
--- `SystemLocality::targets_at` meets its contract: behind a count of each width.
-use borrow.Author.Rules.{rules}
-use Rattle.hmat.proofs.SystemLocality.targets_at.Goals as goal
-
-pub returns-in-Byte : goal.returns-in-Byte
-returns-in-Byte c = rw c.in-Byte.is
-
-pub returns-in-Pair : goal.returns-in-Pair
-returns-in-Pair c = rw c.in-Pair.is
