@@ -1,12 +1,9 @@
 -- A byte that is none of a table's kind numbers names nothing there, and none that is retired: no test on the way is passed. Bodies and matrices are short.
-use mathlib.Core.Path.{◌≡◌, refl, sym, ap, ◌∙◌}
-use Prim.Native.Nat.{ℕ, suc, ◌≤◌, ◌<◌}
-use mathlib.Core.List.{List, [], ◌∷◌}
+use mathlib.Core.Path.{◌≡◌, refl, ◌∙◌}
+use Prim.Native.Nat.{ℕ, suc, ◌≤◌}
 use mathlib.Core.Bool.{true, false}
 use mathlib.Core.Option.{none}
 use native.Mathlib.Omega.{arith}
-use denote.Enum.Declared.{tag_of}
-use types.Run.{OneOf, miss}
 use lib.Dec.{leb}
 use borrow.Author.Tests.{ne_eqb, leb-true}
 use Rattle.format.specs.Bytes.{all, has}
@@ -20,10 +17,10 @@ use Rattle.laws.proofs.Shapes.{square}
 use Rattle.laws.proofs.Fields.{good-fields}
 use Rattle.hmat.specs.declared.SystemLocality.{SystemLocality}
 use Rattle.hmat.specs.Hmat.{matrix_form, matrix_fields, matrix_head}
+use Rattle.recipe.specs.declared.Kind as code
 use Rattle.recipe.specs.declared.Named.{Named}
 use Rattle.recipe.specs.declared.Named.TheVariants as is
 use Rattle.recipe.specs.Kinds.{named}
-use Rattle.recipe.specs.contracts.Named as nameds
 
 abbrev pub first : Table → ℕ
 first pptt = 16
@@ -51,8 +48,8 @@ nowhere hmat b p s h c = unnamed hmat b h
 nowhere cedt b p s h c = unnamed cedt b c
 
 -- what is no kind is none
-pub no_kind_lem : (n : Named) → OneOf (1 ∷ 2 ∷ []) (tag_of nameds.the_type n) → named n ≡ none
-no_kind_lem (is.As k) h = absurd (miss (1 ∷ 2 ∷ []) 0 tt h)
+pub no_kind_lem : (n : Named) → ((k : code.Kind) → n ≡ is.As k → ⊥) → named n ≡ none
+no_kind_lem (is.As k) h = absurd (h k refl)
 no_kind_lem is.Retired h = refl
 no_kind_lem is.Nothing h = refl
 

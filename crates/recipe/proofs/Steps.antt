@@ -10,8 +10,6 @@ use native.Mathlib.Numerals.{add-one}
 use lib.ListN.{length, take, length-append}
 use lib.Dec.{eqb, leb, ltb}
 use borrow.Author.Tests.{le-ltb, le-leb, leb-true}
-use denote.Enum.Declared.{tag_of}
-use types.Run.{OneOf, miss}
 use Rattle.format.specs.Bytes.{pick, both, all, first_of, Answer, refused, given, unless, Bytes, at}
 use Rattle.format.specs.Layout.{width, fields_with, fields, refs_good}
 use Rattle.format.specs.Table.{Table, front, limit}
@@ -35,7 +33,6 @@ use Rattle.recipe.specs.declared.Refusal.TheVariants.{TooLong}
 use Rattle.recipe.specs.declared.Step.{Step}
 use Rattle.recipe.specs.declared.Step.TheVariants.{Next, Refused, BadField}
 use Rattle.recipe.specs.Machine.{newest_kept, state_of, Sound, Begun, grown, made_by, types_of, of_type, refers, Typed, stepped, turn}
-use Rattle.recipe.specs.contracts.Newest.{the_type}
 use Rattle.recipe.proofs.Refers.{refers-new, refers-joined}
 
 -- ---- the tests one by one
@@ -232,61 +229,61 @@ parted t u ns s w e h =
 
 -- a record that has nothing to join: the tags are those of the other variants
 module _ (t : Table) (u : Width) (ns : List Node) (s : State) (e : s ≡ state_of t u ns) where
-  pub stray-resource : (vs : List ℕ) → OneOf (1 ∷ 2 ∷ 3 ∷ 4 ∷ 5 ∷ []) (tag_of the_type s.newest) → joined Resource vs (newest ns) ≡ stray
+  pub stray-resource : (vs : List ℕ) → ((k : ℕ) → s.newest ≡ is.Processor k → ⊥) → joined Resource vs (newest ns) ≡ stray
   unfolding joined
   stray-resource vs h = go (view ns) (rw e at h)
     where
-      go : {ns : List Node} {x : Newest} → View ns x → OneOf (1 ∷ 2 ∷ 3 ∷ 4 ∷ 5 ∷ []) (tag_of the_type (newest_kept u x)) → joined Resource vs x ≡ stray
-      go sees_processor h = absurd (miss (1 ∷ 2 ∷ 3 ∷ 4 ∷ 5 ∷ []) 0 tt h)
+      go : {ns : List Node} {x : Newest} → View ns x → ((k : ℕ) → newest_kept u x ≡ is.Processor k → ⊥) → joined Resource vs x ≡ stray
+      go sees_processor h = absurd (h _ refl)
       go sees_matrix h = refl
       go sees_side h = refl
       go sees_window h = refl
       go sees_xor h = refl
       go sees_other h = refl
 
-  pub stray-setting : (tests : ℕ → ℕ → List Bool) (field : ℕ → ℕ → ℕ) (v : ℕ) → OneOf (0 ∷ 2 ∷ 3 ∷ 4 ∷ 5 ∷ []) (tag_of the_type s.newest) → setting tests field v (newest ns) ≡ stray
+  pub stray-setting : (tests : ℕ → ℕ → List Bool) (field : ℕ → ℕ → ℕ) (v : ℕ) → ((w : code.Width) (i j : ℕ) → s.newest ≡ is.Matrix w i j → ⊥) → setting tests field v (newest ns) ≡ stray
   unfolding setting
   stray-setting tests field v h = go (newest ns) (rw e at h)
     where
-      go : (x : Newest) → OneOf (0 ∷ 2 ∷ 3 ∷ 4 ∷ 5 ∷ []) (tag_of the_type (newest_kept u x)) → setting tests field v x ≡ stray
+      go : (x : Newest) → ((w : code.Width) (i j : ℕ) → newest_kept u x ≡ is.Matrix w i j → ⊥) → setting tests field v x ≡ stray
       go (a_list k needs most n f us ms) h = refl
-      go (a_matrix i j us ms) h = absurd (miss (0 ∷ 2 ∷ 3 ∷ 4 ∷ 5 ∷ []) 1 tt h)
+      go (a_matrix i j us ms) h = absurd (h _ _ _ refl)
       go other h = refl
 
-  pub stray-handle : (vs : List ℕ) → OneOf (0 ∷ 1 ∷ 3 ∷ 4 ∷ 5 ∷ []) (tag_of the_type s.newest) → joined Handle vs (newest ns) ≡ stray
+  pub stray-handle : (vs : List ℕ) → ((k : ℕ) → s.newest ≡ is.Side k → ⊥) → joined Handle vs (newest ns) ≡ stray
   unfolding joined
   stray-handle vs h = go (view ns) (rw e at h)
     where
-      go : {ns : List Node} {x : Newest} → View ns x → OneOf (0 ∷ 1 ∷ 3 ∷ 4 ∷ 5 ∷ []) (tag_of the_type (newest_kept u x)) → joined Handle vs x ≡ stray
+      go : {ns : List Node} {x : Newest} → View ns x → ((k : ℕ) → newest_kept u x ≡ is.Side k → ⊥) → joined Handle vs x ≡ stray
       go sees_processor h = refl
       go sees_matrix h = refl
-      go sees_side h = absurd (miss (0 ∷ 1 ∷ 3 ∷ 4 ∷ 5 ∷ []) 2 tt h)
+      go sees_side h = absurd (h _ refl)
       go sees_window h = refl
       go sees_xor h = refl
       go sees_other h = refl
 
-  pub stray-target : (vs : List ℕ) → OneOf (0 ∷ 1 ∷ 2 ∷ 4 ∷ 5 ∷ []) (tag_of the_type s.newest) → joined WindowTarget vs (newest ns) ≡ stray
+  pub stray-target : (vs : List ℕ) → ((k m : ℕ) → s.newest ≡ is.Window k m → ⊥) → joined WindowTarget vs (newest ns) ≡ stray
   unfolding joined
   stray-target vs h = go (view ns) (rw e at h)
     where
-      go : {ns : List Node} {x : Newest} → View ns x → OneOf (0 ∷ 1 ∷ 2 ∷ 4 ∷ 5 ∷ []) (tag_of the_type (newest_kept u x)) → joined WindowTarget vs x ≡ stray
+      go : {ns : List Node} {x : Newest} → View ns x → ((k m : ℕ) → newest_kept u x ≡ is.Window k m → ⊥) → joined WindowTarget vs x ≡ stray
       go sees_processor h = refl
       go sees_matrix h = refl
       go sees_side h = refl
-      go sees_window h = absurd (miss (0 ∷ 1 ∷ 2 ∷ 4 ∷ 5 ∷ []) 3 tt h)
+      go sees_window h = absurd (h _ _ refl)
       go sees_xor h = refl
       go sees_other h = refl
 
-  pub stray-map : (vs : List ℕ) → OneOf (0 ∷ 1 ∷ 2 ∷ 3 ∷ 5 ∷ []) (tag_of the_type s.newest) → joined Map vs (newest ns) ≡ stray
+  pub stray-map : (vs : List ℕ) → ((k : ℕ) → s.newest ≡ is.Xor k → ⊥) → joined Map vs (newest ns) ≡ stray
   unfolding joined
   stray-map vs h = go (view ns) (rw e at h)
     where
-      go : {ns : List Node} {x : Newest} → View ns x → OneOf (0 ∷ 1 ∷ 2 ∷ 3 ∷ 5 ∷ []) (tag_of the_type (newest_kept u x)) → joined Map vs x ≡ stray
+      go : {ns : List Node} {x : Newest} → View ns x → ((k : ℕ) → newest_kept u x ≡ is.Xor k → ⊥) → joined Map vs x ≡ stray
       go sees_processor h = refl
       go sees_matrix h = refl
       go sees_side h = refl
       go sees_window h = refl
-      go sees_xor h = absurd (miss (0 ∷ 1 ∷ 2 ∷ 3 ∷ 5 ∷ []) 4 tt h)
+      go sees_xor h = absurd (h _ refl)
       go sees_other h = refl
 
 -- ---- records that join it

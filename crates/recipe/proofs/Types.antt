@@ -5,7 +5,7 @@ use mathlib.Core.List.{List, [], ◌∷◌, ◌++◌}
 use mathlib.Core.Bool.{Bool, true, false}
 use native.Mathlib.Nat.{add-zero, zero-mul, one-mul, mul_left_comm, pow-succ', zero-div, div-one, div-div-eq-div-mul, div-add-mod}
 use native.Mathlib.Omega.{arith}
-use lib.ListN.{length, take, drop, set, replicate, length-append, length-drop, length-replicate, length-set, drop_of_length-le}
+use lib.ListN.{length, take, drop, set, replicate, length-append, length-drop, drop_of_length-le}
 use lib.Seq.{get_or-drop, drop-append-le, take-append-le, take_all, take-nil, drop-nil, get_or-set_same, get_or-set_other}
 use lib.Dec.{eqb, ltb}
 use lib.Pow.{pow_pos}

@@ -143,6 +143,7 @@ impl Kind {
     }
 }
 
+#[tactic(auto, unfolding(format::specs::Kind::kind_of))]
 fn of_pptt(table: Table, byte: u8) -> Named
     requires { (kind_number format.Processor ≤ byte) × (byte ≤ kind_number format.Cache) }
     ensures result_value { named result ≡ kind_of (meant table) byte }
@@ -160,6 +161,7 @@ fn of_pptt(table: Table, byte: u8) -> Named
     }
 }
 
+#[tactic(auto, unfolding(format::specs::Kind::kind_of))]
 fn of_srat(table: Table, byte: u8) -> Named
     requires { (kind_number format.Memory ≤ byte) × (byte ≤ kind_number format.Rintc) }
     ensures result_value { named result ≡ kind_of (meant table) byte }
@@ -179,6 +181,7 @@ fn of_srat(table: Table, byte: u8) -> Named
     }
 }
 
+#[tactic(auto, unfolding(format::specs::Kind::kind_of))]
 fn of_hmat(table: Table, byte: u8) -> Named
     requires { (kind_number format.Domain ≤ byte) × (byte ≤ kind_number (format.Cell pair)) }
     ensures result_value { named result ≡ kind_of (meant table) byte }
@@ -204,6 +207,7 @@ fn of_hmat(table: Table, byte: u8) -> Named
     }
 }
 
+#[tactic(auto, unfolding(format::specs::Kind::kind_of))]
 fn of_cedt(table: Table, byte: u8) -> Named
     requires { (kind_number format.Bridge ≤ byte) × (byte ≤ kind_number format.Map) }
     ensures result_value { named result ≡ kind_of (meant table) byte }
@@ -224,6 +228,7 @@ fn of_cedt(table: Table, byte: u8) -> Named
 }
 
 // The kind that a byte names in a recipe of this table.
+#[tactic(auto, unfolding(format::specs::Kind::kind_of))]
 pub fn kind_of(table: Table, byte: u8) -> Named
     ensures result_value { named result ≡ kind_of (meant table) byte }
     ensures result_value_2 { is_retired result ≡ has (retired (meant table)) byte }

@@ -1,6 +1,5 @@
 -- `cache` meets its contract: its fields are good, and its next level is an earlier node, and that a cache; or none.
 use mathlib.Core.Path.{◌≡◌, sym, ap, ◌∙◌}
-use borrow.Author.Rules.{rules}
 use borrow.Author.Tests.{eq-eqb, ne_eqb, le-ltb, lt-ltb}
 use Rattle.format.specs.Bytes.{at}
 use Rattle.format.specs.Node.{Node}

@@ -1,13 +1,9 @@
 -- `check` meets its contract: the head is judged, and then the records behind it.
-use mathlib.Core.Path.{◌≡◌, sym, ap, ◌∙◌}
+use mathlib.Core.Path.{refl, ◌≡◌, sym, ap, ◌∙◌}
 use Prim.Native.Nat.{ℕ, ◌<◌}
-use mathlib.Core.List.{[], ◌∷◌}
 use mathlib.Core.Logic.{inr}
 use mathlib.Core.Option.{none}
 use native.Mathlib.Omega.{arith}
-use borrow.Author.Rules.{rules}
-use denote.Enum.Declared.{tag_of}
-use types.Run.{OneOf, miss}
 use Rattle.format.specs.Bytes.{value, part}
 use Rattle.format.specs.Layout.{width}
 use Rattle.format.specs.Table.{pptt, code}
@@ -16,7 +12,6 @@ use Rattle.format.specs.Recipe.{table_of}
 use Rattle.header.specs.declared.Table.{Table}
 use Rattle.header.specs.declared.Table.TheVariants.{Pptt, Srat, Hmat, Cedt}
 use Rattle.header.specs.Header.{meant, coded_as}
-use Rattle.header.specs.contracts.Table.{the_type}
 use Rattle.recipe.specs.Answers.{outlined}
 use Rattle.recipe.proofs.Types.{typed-none}
 use Rattle.recipe.proofs.Walks.{no-head, cut-head, no_table, headed-by}
@@ -26,8 +21,8 @@ positive : (n : ℕ) → 0 < n → n ≡ 0 → ⊥
 positive n l e = omega arith
 
 -- another table has no types to hold
-other : {A : Type 0} (t : Table) → OneOf (1 ∷ 2 ∷ 3 ∷ []) (tag_of the_type t) → meant t ≡ pptt → A
-other Pptt h e = absurd (miss (1 ∷ 2 ∷ 3 ∷ []) 0 tt h)
+other : {A : Type 0} (t : Table) → (t ≡ Pptt → ⊥) → meant t ≡ pptt → A
+other Pptt h e = absurd (h refl)
 other Srat h e = absurd (positive 1 (omega arith) (ap code e))
 other Hmat h e = absurd (positive 2 (omega arith) (ap code e))
 other Cedt h e = absurd (positive 3 (omega arith) (ap code e))
@@ -46,7 +41,7 @@ returns-in_default c =
     sym (ap outlined (no_table r (sym c.get_u8.ensures ∙ c.if-get_u8-ne-KIND.false) c.if-recipe-lt-HEAD_LEN.false z))
 
 pub walk-requires : goal.walk-requires
-walk-requires c e = other c.in-Table.table c.in_default-table.in_default-table-own.keys2 e
+walk-requires c e = other c.in-Table.table c.in_default-table.not-Pptt e
 
 pub returns-in_default-table : goal.returns-in_default-table
 returns-in_default-table c =

@@ -1,7 +1,6 @@
 -- `handle` meets its contract: behind a side cache that has fewer than 65,535 of them.
 use mathlib.Core.Path.{sym, ◌∙◌}
 use native.Mathlib.Omega.{arith}
-use borrow.Author.Rules.{rules}
 use borrow.Author.Tests.{leb-false}
 use Rattle.format.specs.Layout.{fields}
 use Rattle.format.specs.Kind.{Handle, body}
@@ -11,7 +10,7 @@ use Rattle.recipe.proofs.handle.Goals as goal
 
 pub returns-in_default : goal.returns-in_default
 unfolding step
-returns-in_default c bs t u ns p e = sym (turn-judged t u ns Handle bs p ∙ rw (stray-handle t u ns c.args.st e (fields (body Handle) bs) c.in_default.in_default-own.keys2))
+returns-in_default c bs t u ns p e = sym (turn-judged t u ns Handle bs p ∙ rw (stray-handle t u ns c.args.st e (fields (body Handle) bs) c.in_default.not-Side))
 
 pub returns-then-is_full : goal.returns-then-is_full
 returns-then-is_full c bs t u ns p e =

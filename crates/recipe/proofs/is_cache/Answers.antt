@@ -1,5 +1,4 @@
 -- `is_cache` meets its contract: the type of the node with that ordinal.
-use borrow.Author.Rules.{rules}
 use Rattle.recipe.proofs.is_cache.Goals as goal
 
 pub returns : goal.returns

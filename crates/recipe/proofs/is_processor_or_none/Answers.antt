@@ -1,6 +1,5 @@
 -- `is_processor_or_none` meets its contract: what is not 0 has to name a processor.
 use native.Mathlib.Omega.{arith}
-use borrow.Author.Rules.{rules}
 use borrow.Author.Tests.{eq-eqb, ne_eqb}
 use Rattle.recipe.proofs.is_processor_or_none.Goals as goal
 

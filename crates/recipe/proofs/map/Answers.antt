@@ -1,7 +1,6 @@
 -- `map` meets its contract: behind maths that have fewer than 255 of them.
 use mathlib.Core.Path.{sym, ◌∙◌}
 use native.Mathlib.Omega.{arith}
-use borrow.Author.Rules.{rules}
 use borrow.Author.Tests.{leb-false}
 use Rattle.format.specs.Layout.{fields}
 use Rattle.format.specs.Kind.{Map, body}
@@ -11,7 +10,7 @@ use Rattle.recipe.proofs.map.Goals as goal
 
 pub returns-in_default : goal.returns-in_default
 unfolding step
-returns-in_default c bs t u ns p e = sym (turn-judged t u ns Map bs p ∙ rw (stray-map t u ns c.args.st e (fields (body Map) bs) c.in_default.in_default-own.keys2))
+returns-in_default c bs t u ns p e = sym (turn-judged t u ns Map bs p ∙ rw (stray-map t u ns c.args.st e (fields (body Map) bs) c.in_default.not-Xor))
 
 pub returns-then-is_full : goal.returns-then-is_full
 returns-then-is_full c bs t u ns p e =

@@ -1,25 +1,21 @@
 -- `note_type` meets its contract: by the tag only a cache changes a word, and the word has no bit from the cache's on, so the sum fits.
 use mathlib.Core.Path.{◌≡◌, refl, sym, ap, ◌∙◌}
 use Prim.Native.Nat.{ℕ, suc, ◌+◌, ◌*◌, ◌%◌, ◌^◌, ◌≤◌, ◌<◌}
-use mathlib.Core.List.{List, [], ◌∷◌}
+use mathlib.Core.List.{List}
 use native.Mathlib.Nat.{one-mul, pow-succ'}
 use native.Mathlib.Omega.{arith}
 use lib.Pow.{pow_mono, shl_exact}
-use borrow.Author.Rules.{rules}
-use denote.Enum.Declared.{tag_of}
-use types.Run.{OneOf, miss}
 use Rattle.recipe.specs.declared.Kind.{Kind}
 use Rattle.recipe.specs.declared.Kind.TheVariants.{Processor, Resource, Cache, Memory, Acpi, Pci, Rintc, Domain, Matrix, Initiator, Target, Cell, Side, Handle, Bridge, Window, WindowTarget, Xor, Map, WideMatrix, WideInitiator, WideTarget, WideCell}
 use Rattle.recipe.specs.Kinds.{meant_kind}
 use Rattle.recipe.specs.Machine.{noted}
-use Rattle.recipe.specs.contracts.Kind.{the_type}
 use Rattle.recipe.proofs.note_type.Goals as goal
 
 -- any other kind leaves the words as they are
-left : (k : Kind) (i : ℕ) (ws : List ℕ) → OneOf (0 ∷ 1 ∷ 3 ∷ 4 ∷ 5 ∷ 6 ∷ 7 ∷ 8 ∷ 9 ∷ 10 ∷ 11 ∷ 12 ∷ 13 ∷ 14 ∷ 15 ∷ 16 ∷ 17 ∷ 18 ∷ 19 ∷ 20 ∷ 21 ∷ 22 ∷ []) (tag_of the_type k) → noted (meant_kind k) i ws ≡ ws
+left : (k : Kind) (i : ℕ) (ws : List ℕ) → (k ≡ Cache → ⊥) → noted (meant_kind k) i ws ≡ ws
 left Processor i ws h = refl
 left Resource i ws h = refl
-left Cache i ws h = absurd (miss (0 ∷ 1 ∷ 3 ∷ 4 ∷ 5 ∷ 6 ∷ 7 ∷ 8 ∷ 9 ∷ 10 ∷ 11 ∷ 12 ∷ 13 ∷ 14 ∷ 15 ∷ 16 ∷ 17 ∷ 18 ∷ 19 ∷ 20 ∷ 21 ∷ 22 ∷ []) 2 tt h)
+left Cache i ws h = absurd (h refl)
 left Memory i ws h = refl
 left Acpi i ws h = refl
 left Pci i ws h = refl
@@ -51,7 +47,7 @@ sum_fits a r h l =
     omega (arith, pow-succ' 2 r)
 
 pub returns-in_default : goal.returns-in_default
-returns-in_default c = sym (left c.args.kind _ _ c.in_default.in_default-own.keys2)
+returns-in_default c = sym (left c.args.kind _ _ c.in_default.not-Cache)
 
 pub bounds-types-j : goal.bounds-types-j
 bounds-types-j c = (c.requires (ap meant_kind c.in-Cache.is)).there

@@ -1,17 +1,10 @@
 -- The answers that the search does not find.
 use mathlib.Core.Path.{◌≡◌, sym, ◌∙◌}
-use Prim.Native.Nat.{ℕ, ◌+◌, ◌-◌, ◌≤◌}
-use mathlib.Core.List.{List}
+use Prim.Native.Nat.{◌+◌}
 use native.Mathlib.Omega.{arith}
 use borrow.Author.Rules.{rules}
-use lib.ListN.{length}
-use Rattle.format.specs.Table.{Head}
 use Rattle.format.specs.Kind.{Cell}
-use Rattle.header.specs.declared.Table.TheVariants.{Hmat}
 use Rattle.hmat.specs.Widths.{meant_width}
-use Rattle.recipe.specs.declared.Newest.TheVariants.{Matrix}
-use Rattle.recipe.specs.declared.State.{State}
-use Rattle.recipe.specs.Machine.{Stands}
 use Rattle.recipe.proofs.Numbers.{body-short}
 use Rattle.recipe.proofs.Walks.{cell-fits, cell-passed}
 use Rattle.recipe.proofs.past_cells.Goals as goal

@@ -1,19 +1,13 @@
 -- `past_cells` meets its contract. The invariant: what a state with this matrix stands for at the first place, it stands for at the one that is reached.
-use mathlib.Core.Path.{◌≡◌, sym, ◌∙◌}
-use Prim.Native.Nat.{ℕ, ◌+◌, ◌-◌, ◌≤◌}
+use mathlib.Core.Path.{◌≡◌}
+use Prim.Native.Nat.{ℕ, ◌-◌, ◌≤◌}
 use mathlib.Core.List.{List}
-use native.Mathlib.Omega.{arith}
-use borrow.Author.Rules.{rules}
 use lib.ListN.{length}
 use Rattle.format.specs.Table.{Head}
-use Rattle.format.specs.Kind.{Cell}
 use Rattle.header.specs.declared.Table.TheVariants.{Hmat}
-use Rattle.hmat.specs.Widths.{meant_width}
 use Rattle.recipe.specs.declared.Newest.TheVariants.{Matrix}
 use Rattle.recipe.specs.declared.State.{State}
 use Rattle.recipe.specs.Machine.{Stands}
-use Rattle.recipe.proofs.Numbers.{body-short}
-use Rattle.recipe.proofs.Walks.{cell-fits, cell-passed}
 use Rattle.recipe.proofs.past_cells.Given as goal
 
 abbrev pub invariant-loop-width : goal.invariant-loop-width

@@ -1,6 +1,5 @@
 -- `processor` meets its contract: its parent is an earlier node, and that a processor; or none.
 use mathlib.Core.Path.{sym, ◌∙◌}
-use borrow.Author.Rules.{rules}
 use borrow.Author.Tests.{le-ltb, lt-ltb}
 use Rattle.format.specs.Kind.{Processor}
 use Rattle.laws.proofs.Builds.{kind-home}

@@ -1,7 +1,6 @@
 -- `resource` meets its contract: behind a processor that has fewer than 58 of them, an earlier node that is a cache.
 use mathlib.Core.Path.{◌≡◌, sym, ap, ◌∙◌}
 use native.Mathlib.Omega.{arith}
-use borrow.Author.Rules.{rules}
 use borrow.Author.Tests.{eq-eqb, ne_eqb, le-ltb, lt-ltb, leb-false}
 use Rattle.format.specs.Bytes.{at}
 use Rattle.format.specs.Layout.{fields}
@@ -17,7 +16,7 @@ pub returns-in_default : goal.returns-in_default
 unfolding step
 returns-in_default c t u ns p e b q w =
     let a = c.args in
-    sym (turn-judged t u ns Resource a.bytes.now p ∙ rw (stray-resource t u ns a.st e (fields (body Resource) a.bytes.now) c.in_default.in_default-own.keys2))
+    sym (turn-judged t u ns Resource a.bytes.now p ∙ rw (stray-resource t u ns a.st e (fields (body Resource) a.bytes.now) c.in_default.not-Processor))
 
 pub returns-then-cache-eq0 : goal.returns-then-cache-eq0
 returns-then-cache-eq0 c t u ns p e b q w =

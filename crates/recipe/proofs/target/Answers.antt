@@ -2,7 +2,6 @@
 use mathlib.Core.Path.{refl, sym, ap, ◌∙◌}
 use mathlib.Core.List.{[], ◌∷◌}
 use lib.Dec.{ltb}
-use borrow.Author.Rules.{rules}
 use borrow.Author.Tests.{eq-eqb, ne_eqb}
 use Rattle.format.specs.Bytes.{at}
 use Rattle.format.specs.Layout.{refs_good}
@@ -18,7 +17,7 @@ pub returns-in_default : goal.returns-in_default
 unfolding step
 returns-in_default c t u ns p e =
     let a = c.args in
-    sym (turn-judged t u ns (Target (meant_width a.width)) a.bytes.now p ∙ rw (stray-setting t u ns a.st e _ _ _ c.in_default.in_default-own.keys2))
+    sym (turn-judged t u ns (Target (meant_width a.width)) a.bytes.now p ∙ rw (stray-setting t u ns a.st e _ _ _ c.in_default.not-Matrix))
 
 pub returns-then-not-is : goal.returns-then-not-is
 unfolding body step refs_good

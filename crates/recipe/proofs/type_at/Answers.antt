@@ -1,7 +1,6 @@
 -- `type_at` meets its contract: the word is shifted to the bit, and a word past the end is 0.
 use Prim.Native.Nat.{ℕ}
 use native.Mathlib.Nat.{zero-div}
-use borrow.Author.Rules.{rules}
 use lib.ListN.{get_or-eq_default}
 use Rattle.recipe.proofs.type_at.Goals as goal
 

@@ -1,17 +1,10 @@
 -- The answers that the search does not find.
-use mathlib.Core.Path.{◌≡◌, refl, sym, ap, ◌∙◌}
-use Prim.Native.Nat.{◌-◌}
+use mathlib.Core.Path.{refl, sym, ap, ◌∙◌}
 use native.Mathlib.Omega.{arith}
-use borrow.Author.Rules.{rules}
-use lib.ListN.{length}
-use Rattle.format.specs.Bytes.{part}
-use Rattle.format.specs.Table.{head_of}
 use Rattle.format.specs.Form.{byte}
 use Rattle.format.specs.Kind.{no_kind}
-use Rattle.header.specs.Header.{meant}
 use Rattle.recipe.specs.Kinds.{meant_kind, named}
 use Rattle.recipe.specs.Answers.{outlined}
-use Rattle.recipe.specs.Machine.{Stands}
 use Rattle.recipe.proofs.Numbers.{no_kind_lem, body-short}
 use Rattle.recipe.proofs.Walks.{length-noted, starts-so, sound, ends, incomplete, bad_kind_lem, cut_off_lem, stops, stops_at, within, goes, clear}
 use Rattle.recipe.proofs.walk.Goals as goal
@@ -28,7 +21,7 @@ returns-then-lacks c =
 pub returns-in_default : goal.returns-in_default
 unfolding no_kind
 returns-in_default c =
-    let e = sym c.kind_of-named.ensures.result_value ∙ no_kind_lem c.kind_of-named.result c.in_default.in_default-own.keys2 in
+    let e = sym c.kind_of-named.ensures.result_value ∙ no_kind_lem c.kind_of-named.result c.in_default.not-As in
     let f = rw (c.kind_of-named.ensures.result_value, e) at (sym c.lacks.ensures ∙ c.if-lacks.false) in
     rw (c.refusal.ensures, c.kind_of-named.ensures.result_value_2) (sym (ap outlined (bad_kind_lem _ _ _ _ _ _ c.loop-at.invariant.0 c.loop-at-test.true e f)))
 
@@ -78,7 +71,7 @@ overflow_add-result c =
     let f = rw (c.kind_of-named.ensures.result_value, e) at (sym c.lacks.ensures ∙ c.if-lacks.false) in
     let d = rw c.rest-bytes.ensures at c.judge.ensures in
     let l = within _ _ _ _ _ _ c.loop-at.invariant.0 c.loop-at-test.true _ e f (rw (c.rest-bytes.ensures, c.body_len-n.ensures) at c.if-bytes-n.false) _ d _ c.in-BadField.is in
-    omega (arith, l, add-end-2 n, c.body_len-n.ensures)
+    omega (arith, l, body-short (meant_kind c.in-As.kind), c.body_len-n.ensures)
 
 pub returns-in-BadField : goal.returns-in-BadField
 returns-in-BadField c =

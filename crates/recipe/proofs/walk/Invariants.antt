@@ -1,19 +1,11 @@
 -- `walk` meets its contract. The invariant: the state stands for the nodes of the records before its place, and the words hold their types.
-use mathlib.Core.Path.{◌≡◌, refl, sym, ap, ◌∙◌}
+use mathlib.Core.Path.{◌≡◌}
 use Prim.Native.Nat.{◌-◌}
-use native.Mathlib.Omega.{arith}
-use borrow.Author.Rules.{rules}
 use lib.ListN.{length}
 use Rattle.format.specs.Bytes.{part}
 use Rattle.format.specs.Table.{head_of}
-use Rattle.format.specs.Form.{byte}
-use Rattle.format.specs.Kind.{no_kind}
 use Rattle.header.specs.Header.{meant}
-use Rattle.recipe.specs.Kinds.{meant_kind, named}
-use Rattle.recipe.specs.Answers.{outlined}
 use Rattle.recipe.specs.Machine.{Stands}
-use Rattle.recipe.proofs.Numbers.{no_kind_lem, body-short}
-use Rattle.recipe.proofs.Walks.{length-noted, starts-so, sound, ends, incomplete, bad_kind_lem, cut_off_lem, stops, stops_at, within, goes, clear}
 use Rattle.recipe.proofs.walk.Given as goal
 
 abbrev pub invariant-loop-at : goal.invariant-loop-at

@@ -1,6 +1,5 @@
 -- `window_target` meets its contract: behind a window that has fewer targets than ways.
 use mathlib.Core.Path.{sym, ◌∙◌}
-use borrow.Author.Rules.{rules}
 use borrow.Author.Tests.{le-leb, lt-leb}
 use Rattle.format.specs.Layout.{fields}
 use Rattle.format.specs.Kind.{WindowTarget, body}
@@ -10,7 +9,7 @@ use Rattle.recipe.proofs.window_target.Goals as goal
 
 pub returns-in_default : goal.returns-in_default
 unfolding step
-returns-in_default c bs t u ns p e g = sym (turn-judged t u ns WindowTarget bs p ∙ rw (stray-target t u ns c.args.st e (fields (body WindowTarget) bs) c.in_default.in_default-own.keys2))
+returns-in_default c bs t u ns p e g = sym (turn-judged t u ns WindowTarget bs p ∙ rw (stray-target t u ns c.args.st e (fields (body WindowTarget) bs) c.in_default.not-Window))
 
 pub returns-then-needs-has : goal.returns-then-needs-has
 returns-then-needs-has c bs t u ns p e g =

@@ -1,5 +1,4 @@
 -- `Kind::body_len` meets its contract: the widths of each body are added up.
-use borrow.Author.Rules.{rules}
 use Rattle.format.specs.Layout.{width}
 use Rattle.format.specs.Kind.{body}
 use Rattle.recipe.proofs.Kind.body_len.Goals as goal

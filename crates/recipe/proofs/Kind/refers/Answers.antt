@@ -1,6 +1,5 @@
 -- `Kind::refers` meets its contract: the reference of each body stands at its place.
 use mathlib.Core.Path.{ap}
-use borrow.Author.Rules.{rules}
 use Rattle.format.specs.Bytes.{at}
 use Rattle.recipe.specs.declared.Reference.TheVariants.{Processor, Cache}
 use Rattle.recipe.proofs.Kind.refers.Goals as goal

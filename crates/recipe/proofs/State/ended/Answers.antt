@@ -1,6 +1,5 @@
 -- `State::ended` meets its contract: what the newest node lacks is asked for first.
 use mathlib.Core.Path.{sym, ◌∙◌}
-use borrow.Author.Rules.{rules}
 use Rattle.recipe.proofs.State.ended.Goals as goal
 
 pub returns-then-lacks : goal.returns-then-lacks

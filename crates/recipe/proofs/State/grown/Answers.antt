@@ -1,5 +1,4 @@
 -- `State::grown` meets its contract: the length is tested before the state is made.
-use borrow.Author.Rules.{rules}
 use borrow.Author.Tests.{le-ltb, lt-ltb}
 use Rattle.recipe.proofs.State.grown.Goals as goal
 

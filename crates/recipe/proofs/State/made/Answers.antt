@@ -1,5 +1,4 @@
 -- `State::made` meets its contract: a bad field is refused, else the state grows by a node.
-use borrow.Author.Rules.{rules}
 use borrow.Author.Tests.{eq-eqb, ne_eqb}
 use Rattle.recipe.proofs.State.made.Goals as goal
 

@@ -1,6 +1,5 @@
 -- `State::new` meets its contract: no nodes, and a table of its front alone.
 use native.Mathlib.Nat.{add-zero}
-use borrow.Author.Rules.{rules}
 use Rattle.format.specs.Node.{sizes}
 use Rattle.header.proofs.Unique.{table-back}
 use Rattle.recipe.proofs.State.new.Goals as goal
