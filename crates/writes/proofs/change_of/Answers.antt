@@ -1,6 +1,5 @@
 -- `change_of` meets its contract: kind by kind, what the called function says.
 use mathlib.Core.List.{[]}
-use borrow.Author.Rules.{rules}
 use Rattle.writes.specs.Writes.{change_of}
 use Rattle.writes.proofs.change_of.Goals as goal
 

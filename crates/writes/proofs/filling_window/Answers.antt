@@ -1,6 +1,5 @@
 -- `filling_window` meets its contract: the place is that of the next target, as far as a usize has it.
 use mathlib.Core.Path.{◌∙◌}
-use borrow.Author.Rules.{rules}
 use Rattle.writes.specs.Writes.{change_of}
 use Rattle.writes.proofs.filling_window.Goals as goal
 

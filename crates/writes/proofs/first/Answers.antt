@@ -1,6 +1,5 @@
 -- `first` meets its contract: by the test that it makes.
 use mathlib.Core.Path.{sym}
-use borrow.Author.Rules.{rules}
 use borrow.Author.Tests.{lt-ltb, le-ltb}
 use lib.Seq.{length-take-le}
 use Rattle.writes.specs.Writes.{windowed}

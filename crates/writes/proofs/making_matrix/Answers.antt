@@ -1,5 +1,4 @@
 -- `making_matrix` meets its contract: I and T are one or two bytes of the body each, so the length is exact.
-use borrow.Author.Rules.{rules}
 use mathlib.Core.Path.{◌∙◌}
 use native.Mathlib.Omega.{arith}
 use Rattle.hmat.specs.Widths.{meant_width}

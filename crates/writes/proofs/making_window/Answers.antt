@@ -2,7 +2,6 @@
 use mathlib.Core.Path.{ap, ◌∙◌}
 use mathlib.Core.List.{List}
 use Prim.Native.Nat.{ℕ}
-use borrow.Author.Rules.{rules}
 use Rattle.format.specs.Bytes.{at}
 use Rattle.format.specs.Form.{window, ways, size}
 use Rattle.writes.specs.Writes.{making, change_of}

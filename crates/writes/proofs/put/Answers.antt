@@ -2,7 +2,6 @@
 use mathlib.Core.Path.{ap, ◌∙◌}
 use Prim.Native.Nat.{ℕ, ◌%◌}
 use mathlib.Core.List.{List}
-use borrow.Author.Rules.{rules}
 use Rattle.format.specs.Bytes.{at, le, over}
 use Rattle.format.specs.Form.{byte, pair, processor, cache, memory, acpi, pci, rintc, domain, side, bridge, window, xor, registers, ways}
 use Rattle.format.specs.Node.{node}

@@ -1,5 +1,4 @@
 -- `set_value` meets its contract: the value of the body goes to the place.
-use borrow.Author.Rules.{rules}
 use mathlib.Core.Path.{ap, ◌∙◌}
 use mathlib.Core.List.{List}
 use Prim.Native.Nat.{ℕ}

@@ -1,5 +1,4 @@
 -- `setting_cell` meets its contract: the place is that of the cell, as far as a usize has it.
-use borrow.Author.Rules.{rules}
 use mathlib.Core.Path.{ap, ◌∙◌}
 use mathlib.Core.List.{List}
 use Prim.Native.Nat.{ℕ}

@@ -1,5 +1,4 @@
 -- `State::filling` meets its contract: the newest record's item is counted.
-use borrow.Author.Rules.{rules}
 use Rattle.writes.proofs.State.filling.Goals as goal
 
 pub returns : goal.returns

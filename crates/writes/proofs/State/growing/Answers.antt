@@ -1,5 +1,4 @@
 -- `State::growing` meets its contract: the newest record's item is counted.
-use borrow.Author.Rules.{rules}
 use Rattle.writes.proofs.State.growing.Goals as goal
 
 pub returns : goal.returns

@@ -1,5 +1,4 @@
 -- `State::making` meets its contract: the newest record is one more.
-use borrow.Author.Rules.{rules}
 use Rattle.writes.proofs.State.making.Goals as goal
 
 pub returns : goal.returns
