@@ -16,7 +16,6 @@ use Rattle.format.specs.Node.{Node, sizes}
 use Rattle.format.specs.Form.{Width, byte}
 use Rattle.format.specs.Kind.{Kind, Processor, Resource, Cache, Memory, Acpi, Pci, Rintc, Domain, Matrix, Initiator, Target, Cell, Side, Handle, Bridge, Window, WindowTarget, Xor, Map, kind_number, kind_of, no_kind, body, part_in, width_behind}
 use Rattle.format.specs.Recipe.{Calls, done, bad_kind, cut_off, called, cut_as, skip, cut, newest, joined, setting, changes, stray, step, added, fault, lacking, fault_at, Meaning, means, since, run, headed, meaning}
-use Rattle.format.specs.Build.{table}
 use Rattle.laws.proofs.Finds.{never, then-given, unless-given}
 use Rattle.laws.proofs.Grows.{View, sees_processor, sees_matrix, sees_side, sees_window, sees_xor, sees_other, view, passed}
 use Rattle.laws.proofs.Calls.{cut-skip}

@@ -1,6 +1,5 @@
 -- `build` meets its contract: what the check refuses is refused, and what has no room; the rest is written.
 use mathlib.Core.Path.{sym, ap, ◌∙◌}
-use borrow.Author.Rules.{rules}
 use Rattle.header.specs.Header.{meant}
 use Rattle.recipe.specs.Answers.{number, shown}
 use Rattle.build.proofs.Answers.{is-refused, no_room_lem, has_room, is-built}
@@ -10,7 +9,8 @@ pub returns-then-out-len : goal.returns-then-out-len
 returns-then-out-len c =
     let a = c.args in
     let e = sym (ap shown c.in-Good.is) ∙ c.check.ensures in
-    no_room_lem a.recipe.now a.out.now (meant c.in-Good.table) c.in-Good.len e c.if-out-len.true
+    let (n, o) = no_room_lem a.recipe.now a.out.now (meant c.in-Good.table) c.in-Good.len e c.if-out-len.true in
+    record { result_value = n; out_after = o }
 
 pub write-requires : goal.write-requires
 write-requires c =
@@ -23,9 +23,10 @@ returns-else-out-len c =
     let a = c.args in
     let e = sym (ap shown c.in-Good.is) ∙ c.check.ensures in
     let (n, o) = is-built a.recipe.now a.out.now (meant c.in-Good.table) c.in-Good.len e c.if-out-len.false in
-    (n, c.write.ensures ∙ o)
+    record { result_value = n; out_after = c.write.ensures ∙ o }
 
 pub returns-in-Refused : goal.returns-in-Refused
 returns-in-Refused c =
     let a = c.args in
-    is-refused a.recipe.now a.out.now (number c.in-Refused.refusal) c.in-Refused.at (sym (ap shown c.in-Refused.is) ∙ c.check.ensures)
+    let (n, o) = is-refused a.recipe.now a.out.now (number c.in-Refused.refusal) c.in-Refused.at (sym (ap shown c.in-Refused.is) ∙ c.check.ensures) in
+    record { result_value = n; out_after = o }

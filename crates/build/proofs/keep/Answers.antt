@@ -1,6 +1,5 @@
 -- `keep` meets its contract: the newest record's mark is noted under its number, if there is one.
 use mathlib.Core.Path.{sym, ◌∙◌}
-use borrow.Author.Rules.{rules}
 use borrow.Author.Tests.{eq-eqb, ne_eqb}
 use Rattle.build.specs.Held.{kept_with}
 use Rattle.build.proofs.keep.Goals as goal

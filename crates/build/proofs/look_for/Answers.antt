@@ -1,5 +1,4 @@
 -- `look_for` meets its contract: the record is looked for by what the reference is, and none is for none.
-use borrow.Author.Rules.{rules}
 use Rattle.build.proofs.look_for.Goals as goal
 
 pub place_of-requires : goal.place_of-requires

@@ -2,7 +2,6 @@
 use mathlib.Core.Path.{◌∙◌}
 use Prim.Native.Nat.{◌-◌}
 use native.Mathlib.Omega.{arith}
-use borrow.Author.Rules.{rules}
 use Rattle.format.specs.Table.{pptt}
 use Rattle.marks.specs.Marks.{first_mark}
 use Rattle.marks.proofs.Laws.{node-keeps, node-before}

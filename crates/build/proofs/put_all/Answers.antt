@@ -1,5 +1,4 @@
 -- `put_all` meets its contract: no mark is wrong where there is none.
-use borrow.Author.Rules.{rules}
 use Rattle.header.specs.Header.{meant}
 use mathlib.Core.List.{[]}
 use Rattle.build.proofs.Steps.{unmarked}

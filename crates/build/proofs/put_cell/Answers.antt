@@ -1,5 +1,4 @@
 -- `put_cell` meets its contract: the body behind the kind byte gives indices and value, and the place is in the buffer.
-use borrow.Author.Rules.{rules}
 use Prim.Native.Nat.{◌+◌, ◌-◌}
 use native.Mathlib.Omega.{arith}
 use lib.ListN.{length}
@@ -18,7 +17,7 @@ pub replace-requires : goal.replace-requires
 replace-requires c =
     let a = c.args in
     let n = a.at + 1 + c.body_len.result - (a.at + 1) in
-    let z = entry-exact (meant_width a.width) a.recipe.now a.at n _ c.from_body-cell.ensures (omega (arith, c.body_len.ensures)) a.cells a.targets (length a.out.now) _ c.entry_place-place.ensures c.requires.1 (omega (arith, c.well-formed)) in
+    let z = entry-exact (meant_width a.width) a.recipe.now a.at n _ c.from_body-cell.ensures (omega (arith, c.body_len.ensures)) a.cells a.targets (length a.out.now) _ c.entry_place-place.ensures c.requires.1 (omega (arith, c.well_formed)) in
     rw z c.requires.1
 
 pub returns : goal.returns
@@ -26,6 +25,6 @@ returns c =
     let a = c.args in
     let w = meant_width a.width in
     let n = a.at + 1 + c.body_len.result - (a.at + 1) in
-    let z = entry-exact w a.recipe.now a.at n _ c.from_body-cell.ensures (omega (arith, c.body_len.ensures)) a.cells a.targets (length a.out.now) _ c.entry_place-place.ensures c.requires.1 (omega (arith, c.well-formed)) in
+    let z = entry-exact w a.recipe.now a.at n _ c.from_body-cell.ensures (omega (arith, c.body_len.ensures)) a.cells a.targets (length a.out.now) _ c.entry_place-place.ensures c.requires.1 (omega (arith, c.well_formed)) in
     let v = value-is w a.recipe.now a.at n _ c.from_body-cell.ensures (omega (arith, c.body_len.ensures)) in
     rw (← z, ← v) c.replace.ensures

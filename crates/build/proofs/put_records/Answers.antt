@@ -1,13 +1,8 @@
 -- The answers that the search does not find.
-use mathlib.Core.Path.{◌≡◌, refl}
-use Prim.Native.Nat.{ℕ, ◌-◌}
-use mathlib.Core.List.{List}
+use mathlib.Core.Path.{refl}
 use native.Mathlib.Omega.{arith}
 use borrow.Author.Rules.{rules}
-use lib.ListN.{length}
-use Rattle.format.specs.Recipe.{Meaning}
 use Rattle.header.specs.Header.{meant}
-use Rattle.build.specs.Held.{Held}
 use Rattle.build.proofs.Steps.{low, kept}
 use Rattle.build.proofs.put_records.Goals as goal
 

@@ -1,14 +1,11 @@
 -- `put_records` meets its contract. The invariant: the pass has gone on to the same meaning, with marks as good. The measure is what is left of the recipe.
-use mathlib.Core.Path.{◌≡◌, refl}
+use mathlib.Core.Path.{◌≡◌}
 use Prim.Native.Nat.{ℕ, ◌-◌}
 use mathlib.Core.List.{List}
-use native.Mathlib.Omega.{arith}
-use borrow.Author.Rules.{rules}
 use lib.ListN.{length}
 use Rattle.format.specs.Recipe.{Meaning}
 use Rattle.header.specs.Header.{meant}
 use Rattle.build.specs.Held.{Held}
-use Rattle.build.proofs.Steps.{low, kept}
 use Rattle.build.proofs.put_records.Given as goal
 
 abbrev pub invariant-loop-s : goal.invariant-loop-s

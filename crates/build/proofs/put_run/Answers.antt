@@ -1,14 +1,11 @@
 -- The answers that the search does not find.
-use mathlib.Core.Path.{◌≡◌, refl, ◌∙◌}
-use Prim.Native.Nat.{◌+◌, ◌-◌, ◌≤◌}
+use mathlib.Core.Path.{refl, ◌∙◌}
 use native.Mathlib.Omega.{arith}
 use borrow.Author.Rules.{rules}
-use lib.ListN.{length}
 use Rattle.format.specs.Table.{hmat}
 use Rattle.hmat.specs.Widths.{meant_width}
 use Rattle.hmat.proofs.Bodies.{cell-small}
 use Rattle.writes.specs.declared.State.{State}
-use Rattle.build.specs.Held.{Goes}
 use Rattle.build.proofs.Steps.{low}
 use Rattle.build.proofs.Places.{target-exact}
 use Rattle.build.proofs.Cells.{held_at, cell-whole, cell_in, cell-goes}

@@ -1,11 +1,9 @@
 -- The answers that the search does not find.
 use mathlib.Core.Path.{◌≡◌, sym, ap, ◌∙◌}
-use Prim.Native.Nat.{ℕ, ◌+◌, ◌-◌, ◌*◌, ◌%◌, ◌≤◌}
+use Prim.Native.Nat.{ℕ, ◌+◌, ◌%◌}
 use native.Mathlib.Omega.{arith}
 use borrow.Author.Rules.{rules}
-use Rattle.format.specs.Table.{limit}
 use Rattle.laws.proofs.Bytes.{value-byte}
-use Rattle.build.specs.Write.{hops}
 use Rattle.build.proofs.Walks.{walk_turn}
 use Rattle.build.proofs.reached.Goals as goal
 

@@ -1,12 +1,8 @@
 -- `reached` meets its contract: so many hops lead to the place that is reached.
-use mathlib.Core.Path.{◌≡◌, sym, ap, ◌∙◌}
-use Prim.Native.Nat.{ℕ, ◌+◌, ◌-◌, ◌*◌, ◌%◌, ◌≤◌}
-use native.Mathlib.Omega.{arith}
-use borrow.Author.Rules.{rules}
+use mathlib.Core.Path.{◌≡◌}
+use Prim.Native.Nat.{◌+◌, ◌-◌, ◌*◌, ◌≤◌}
 use Rattle.format.specs.Table.{limit}
-use Rattle.laws.proofs.Bytes.{value-byte}
 use Rattle.build.specs.Write.{hops}
-use Rattle.build.proofs.Walks.{walk_turn}
 use Rattle.build.proofs.reached.Given as goal
 
 abbrev pub invariant-loop-nodes : goal.invariant-loop-nodes

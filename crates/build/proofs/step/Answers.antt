@@ -18,7 +18,7 @@ returns-in_default c =
     let a = c.args in
     let r = c.args.recipe.now in
     let t = meant a.table in
-    let e : kind_of t (get_or r a.s.at 0) ≡ none = sym c.kind_of.ensures.result_value ∙ no_kind_lem c.kind_of.result c.in_default.in_default-own.keys2 in
+    let e : kind_of t (get_or r a.s.at 0) ≡ none = sym c.kind_of.ensures.result_value ∙ no_kind_lem c.kind_of.result c.in_default.not-As in
     unknown r t a.s a.out.now a.marks.now c.requires.1 c.requires.0 e
 
 pub overflow_add-next : goal.overflow_add-next

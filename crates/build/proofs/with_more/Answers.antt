@@ -2,7 +2,6 @@
 use mathlib.Core.Path.{ap, ◌∙◌}
 use Prim.Native.Nat.{ℕ, ◌+◌, ◌%◌}
 use mathlib.Core.List.{List}
-use borrow.Author.Rules.{rules}
 use Rattle.format.specs.Bytes.{le, part, sum}
 use Rattle.format.specs.Build.{check_of}
 use Rattle.build.proofs.Sums.{sum-three}

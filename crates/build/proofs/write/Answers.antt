@@ -1,6 +1,5 @@
 -- `write` meets its contract: from the front over all records to the length and the checksum.
 use native.Mathlib.Omega.{arith}
-use borrow.Author.Rules.{rules}
 use Rattle.header.specs.Header.{meant}
 use Rattle.build.proofs.Steps.{ended}
 use Rattle.build.proofs.write.Goals as goal
@@ -20,4 +19,4 @@ returns c =
     let m = c.requires.meant in
     let put = c.put_all-last in
     let (ms, h) = put.ensures.1 a.out.now m (c.start-first.ensures.1 m c.requires.means) in
-    ended a.out.now a.recipe.now (meant a.table) m put.result put.new.1.1.0 ms c.set_length.new.0 c.set_checksum.new.0 c.value-sum.result h put.ensures.0 c.requires.means c.set_length.ensures c.value-sum.ensures c.set_checksum.ensures
+    ended a.out.now a.recipe.now (meant a.table) m put.result put.new.out ms c.set_length.new.out c.set_checksum.new.out c.value-sum.result h put.ensures.0 c.requires.means c.set_length.ensures c.value-sum.ensures c.set_checksum.ensures

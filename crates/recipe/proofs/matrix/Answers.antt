@@ -22,7 +22,7 @@ unfolding ranges bad_field
 returns-then-bad-ne0 c t u ns p e =
     let a = c.args in
     let bad = c.bad_field-bad.ensures ∙ ap (λ vs. bad_field (node (matrix (at vs 4) (at vs 5)) vs)) c.from_body-node.ensures in
-    let (i, j) = counts-below (meant_width a.width) a.bytes.now (bytes_of a.bytes.now (λ i. omega (arith, c.shared_slice_known-1.given i))) in
+    let (i, j) = counts-below (meant_width a.width) a.bytes.now (bytes_of a.bytes.now (λ i. omega (arith, c.type_inv.bytes i))) in
     sym (matrix-turn (meant_width a.width) t u ns p a.st a.bytes.now _ i j bad e ∙ rw (ne_eqb _ _ c.if-bad-ne0.true))
 
 pub grown-requires : goal.grown-requires
@@ -41,5 +41,5 @@ returns c t u ns p q =
     let i : m.initiators ≡ at vs 4 = ap (λ vs. at vs 4) c.from_body-node.ensures in
     let j : m.targets ≡ at vs 5 = ap (λ vs. at vs 5) c.from_body-node.ensures in
     let bad = c.bad_field-bad.ensures ∙ ap (λ vs. bad_field (node (matrix (at vs 4) (at vs 5)) vs)) c.from_body-node.ensures in
-    let (x, y) = counts-below w a.bytes.now (bytes_of a.bytes.now (λ i. omega (arith, c.shared_slice_known-1.given i))) in
+    let (x, y) = counts-below w a.bytes.now (bytes_of a.bytes.now (λ i. omega (arith, c.type_inv.bytes i))) in
     rw (c.grown.ensures, n, i, j) (sym (matrix-turn w t u ns p a.st a.bytes.now _ x y bad q ∙ rw (eq-eqb _ _ c.if-bad-ne0.false, width_back a.width)))

@@ -8,4 +8,4 @@ use Rattle.writes.proofs.making_matrix.Goals as goal
 pub returns : goal.returns
 returns c =
     let a = c.args in
-    c.making.ensures ∙ matrix-making (meant_width a.width) a.s a.bytes.now _ _ (λ i. omega (arith, c.shared_slice_known-1.given i)) c.from_body-node.ensures c.len.ensures
+    c.making.ensures ∙ matrix-making (meant_width a.width) a.s a.bytes.now _ _ (λ i. omega (arith, c.type_inv.bytes i)) c.from_body-node.ensures c.len.ensures
