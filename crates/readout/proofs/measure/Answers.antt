@@ -11,21 +11,6 @@ use Rattle.readout.specs.Bounds.{record_most}
 use Rattle.readout.proofs.Scans.{Counting, counting-start, counting-end, counting-bad, counting-unknown, counting-next, small-record, Turn, turns}
 use Rattle.readout.proofs.measure.Goals as goal
 
--- from where the row is known back to the turn's start and the call's
-abbrev turn : tie.After-row-of invariant-loop decreases-loop → tie.In-loop invariant-loop decreases-loop
-turn k = k.before.before.before.before.before
-
-abbrev call : tie.After-row-of invariant-loop decreases-loop → tie.Start invariant-loop decreases-loop
-call k = (turn k).before.before.before.before
-
--- what the turn has learnt of the record
-learnt : (k : tie.After-row-of invariant-loop decreases-loop)
-    → Turn (meant (call k).args.t) (call k).args.revision (call k).args.c.now (turn k).before.loop.p k.before.record-in.result.now (row_meant k.row_of.result)
-learnt k =
-    let d = k.before in
-    let f = d.before.before in
-    turns _ _ _ _ _ _ _ _ f.before.rest.ensures f.framed.ensures (not-false _ d.before.if1.false) d.record-in.ensures k.row_of.ensures
-
 pub loop-p-init : goal.loop-p-init
 loop-p-init c = rw c.front-p.ensures (omega arith, omega (arith, front_long (meant c.args.t)), counting-start _ _ _)
 
@@ -36,26 +21,34 @@ returns-then-not-framed c =
 
 pub returns-then-not-is_known : goal.returns-then-not-is_known
 returns-then-not-is_known c =
-    counting-unknown _ _ _ (learnt k) (sym c.is_Known.ensures ∙ c.if-not-is_known.true) (turn k).before.loop.invariant.2
+    let T = turns _ _ _ _ _ _ _ _ c.rest-s.ensures c.framed.ensures c.if-not-framed.false c.record_in-body.ensures c.row_of-row.ensures in
+    counting-unknown _ _ _ T (sym c.is_known.ensures ∙ c.if-not-is_known.true) c.loop-p.invariant.2
 
 pub calls_len-q-requires : goal.calls_len-q-requires
 calls_len-q-requires c =
-    rw c.row_of-row.ensures (small-record _ _ _ _ (omega (arith, (learnt k).inside, (call k).requires)))
+    let T = turns _ _ _ _ _ _ _ _ c.rest-s.ensures c.framed.ensures c.if-not-framed.false c.record_in-body.ensures c.row_of-row.ensures in
+    rw c.row_of-row.ensures (small-record _ _ _ _ (omega (arith, T.inside, c.requires)))
 
 pub overflow_add-q-in-loop-p : goal.overflow_add-q-in-loop-p
-overflow_add-q-in-loop-p c = omega (arith, (learnt k).inside, (call k).requires, c.calls_len-q.ensures.1)
+overflow_add-q-in-loop-p c =
+    let T = turns _ _ _ _ _ _ _ _ c.rest-s.ensures c.framed.ensures c.if-not-framed.false c.record_in-body.ensures c.row_of-row.ensures in
+    omega (arith, T.inside, c.requires, c.calls_len-q.ensures.1)
 
 pub overflow_add-p : goal.overflow_add-p
-overflow_add-p c = omega (arith, (learnt k).inside, (call k).requires)
+overflow_add-p c =
+    let T = turns _ _ _ _ _ _ _ _ c.rest-s.ensures c.framed.ensures c.if-not-framed.false c.record_in-body.ensures c.row_of-row.ensures in
+    omega (arith, T.inside, c.requires)
 
 pub loop-p-smaller : goal.loop-p-smaller
-loop-p-smaller c = let T = learnt c in omega (arith, T.inside, T.some)
+loop-p-smaller c =
+    let T = turns _ _ _ _ _ _ _ _ c.rest-s.ensures c.framed.ensures c.if-not-framed.false c.record_in-body.ensures c.row_of-row.ensures in
+    omega (arith, T.inside, T.some)
 
 pub loop-p-preserved : goal.loop-p-preserved
 loop-p-preserved c =
-    let T = learnt k in
-    let i = (turn k).before.loop.invariant in
-    let u = sym c.is_Known.ensures ∙ c.if-not-is_known.false in
+    let T = turns _ _ _ _ _ _ _ _ c.rest-s.ensures c.framed.ensures c.if-not-framed.false c.record_in-body.ensures c.row_of-row.ensures in
+    let i = c.loop-p.invariant in
+    let u = sym c.is_known.ensures ∙ c.if-not-is_known.false in
     (omega (arith, c.calls_len-q.ensures.1, T.some), omega arith, counting-next _ _ _ T _ _ i.1 u (c.calls_len-q.ensures.0 _) c.first_retired-old.ensures i.2)
 
 pub returns : goal.returns

@@ -46,6 +46,6 @@ returns c =
     let k : c.resources_in-n.result ≡ (length b - 20) / 4 = c.resources_in-n.ensures in
     let w = rw c.named.ensures at c.put_body.ensures.out_after in
     let j = rw c.named.ensures at c.put_body.ensures.value in
-    let h = ap (λ (x : ProcessorHandle). c.0) c.processor_ordinal-parent.ensures in
+    let h = ap (λ (x : ProcessorHandle). x.0) c.processor_ordinal-parent.ensures in
     let f = ordinal_at pptt c.args.c.now c.args.own in
     (rw (calls_at, ← c.resources_in-n.ensures) (laid_on (put-laid w j (processor-named f b c.get-node.result c.processor_ordinal-parent.result c.resources_in-n.result (c.get-node.ensures ∙ shown-window b) h)) c.put_resources.ensures.0), omega arith)

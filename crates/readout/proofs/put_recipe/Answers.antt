@@ -10,7 +10,7 @@ use Rattle.readout.proofs.put_recipe.Goals as goal
 
 pub returns-then-out-n : goal.returns-then-out-n
 unfolding written
-returns-then-out-n c = rw (lt-ltb _ _ c.if-out-n.true) (refl, refl)
+returns-then-out-n c = rw (lt-ltb _ _ c.if-out-n.true) record { result_value = refl; out_after = refl }
 
 pub put_calls-requires : goal.put_calls-requires
 put_calls-requires c = rw c.own.ensures c.requires.1
@@ -20,4 +20,4 @@ unfolding written
 returns c =
     let b = c.args.table.now in
     let r = rw (c.revision_in.ensures, ← value-byte b 8, c.own.ensures) at c.put_calls.ensures in
-    rw (le-ltb _ _ c.if-out-n.false) (refl, recipe-laid (meant c.args.t) b _ _ _ c.requires.0 c.put_body.ensures r)
+    rw (le-ltb _ _ c.if-out-n.false) record { result_value = refl; out_after = recipe-laid (meant c.args.t) b _ _ _ c.requires.0 c.put_body.ensures r }
