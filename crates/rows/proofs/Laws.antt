@@ -12,17 +12,17 @@ use Rattle.format.specs.Row.{processors, initiators, form_in}
 use Rattle.format.specs.Read.{sound, list_in, part_of}
 use Rattle.laws.proofs.Tests.{both_right}
 
-pub processor-fixed : (bs : List ℕ) → fixed_ok (layout (form_in processors bs)) bs ≡ sound (form_in processors bs) bs
+pub processor_fixed : (bs : List ℕ) → fixed_ok (layout (form_in processors bs)) bs ≡ sound (form_in processors bs) bs
 unfolding sound form_in ranges
-processor-fixed bs = sym (both_right (fixed_ok (layout (form_in processors bs)) bs))
+processor_fixed bs = sym (both_right (fixed_ok (layout (form_in processors bs)) bs))
 
-pub domain-fixed : (bs : List ℕ) → fixed_ok (layout domain) bs ≡ sound domain bs
+pub domain_fixed : (bs : List ℕ) → fixed_ok (layout domain) bs ≡ sound domain bs
 unfolding sound ranges
-domain-fixed bs = sym (both_right (fixed_ok (layout domain) bs))
+domain_fixed bs = sym (both_right (fixed_ok (layout domain) bs))
 
-pub no-handle-list : (bs : List ℕ) → [] ≡ part_of (some initiators) bs
+pub no_handle_list : (bs : List ℕ) → [] ≡ part_of (some initiators) bs
 unfolding part_of form_in list_in
-no-handle-list bs = by (eqb (at bs 3) 0)
+no_handle_list bs = by (eqb (at bs 3) 0)
   where
     by : (b : Bool) → [] ≡ list_in (pick b acpi pci) bs
     by true = refl

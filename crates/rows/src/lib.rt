@@ -123,6 +123,7 @@ fn pptt_row(revision: u8, body: &[u8]) -> Row
 }
 
 // Two rows have one type: the length tells them apart.
+#[tactic(auto, unfolding(format::specs::Row::column))]
 fn rintc_row(body: &[u8]) -> Row
     ensures { row_meant result ≡ pick (column old_rintcs body.now) (some old_rintcs) (pick (column rintcs body.now) (some rintcs) none) }
 {
@@ -196,7 +197,7 @@ pub fn row_of(table: Table, revision: u8, body: &[u8]) -> Row
     }
 }
 
-// The row, where a reader of the mask knows it.
+// The row, where a reader of the mask knows it: the mask chooses between the row and none.
 pub fn known(row: Row, mask: u32) -> Row
     ensures { row_meant result ≡ known mask (row_meant row) }
 {
@@ -206,6 +207,7 @@ pub fn known(row: Row, mask: u32) -> Row
 // ---- whether a record of a row is sound
 
 // Whether zeros, fixed values, ranges, bit rules and inner counts are as the row has them; of an unknown record nothing is asked.
+#[tactic(auto, using(crate::proofs::Laws::processor_fixed, crate::proofs::Laws::domain_fixed), unfolding(format::specs::Row::form_in))]
 pub fn sound(row: Row, body: &[u8]) -> bool
     ensures { result ≡ sound_as (row_meant row) body.now }
 {
@@ -227,6 +229,7 @@ pub fn sound(row: Row, body: &[u8]) -> bool
 }
 
 // The part of a record that is its list, empty where the row has none; an unknown record whole.
+#[tactic(auto, using(crate::proofs::Laws::no_handle_list), unfolding(format::specs::Read::part_of, format::specs::Read::list_in, format::specs::Row::form_in))]
 pub fn part<'a>(row: Row, body: &'a [u8]) -> &'a [u8]
     ensures { result.now ≡ part_of (row_meant row) body.now }
 {

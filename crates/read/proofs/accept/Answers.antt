@@ -4,7 +4,6 @@ use Prim.Native.Nat.{ℕ, ◌≤◌}
 use mathlib.Core.List.{List}
 use native.Mathlib.Omega.{arith}
 use lib.ListN.{length}
-use borrow.Author.Rules.{rules}
 use Rattle.format.specs.Bytes.{given}
 use Rattle.format.specs.Table.{Table, limit}
 use Rattle.format.specs.Read.{own, judge_head, walked, accept}

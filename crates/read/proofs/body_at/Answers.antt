@@ -1,6 +1,5 @@
 -- `body_at` meets its contract: the record at the front of what stands from the place on.
 use mathlib.Core.Path.{◌∙◌}
-use borrow.Author.Rules.{rules}
 use Rattle.read.proofs.body_at.Goals as goal
 
 pub returns-in-Table : goal.returns-in-Table

@@ -1,5 +1,4 @@
 -- `first_place` meets its contract: the front of the table that is signed.
-use borrow.Author.Rules.{rules}
 use Rattle.read.proofs.first_place.Goals as goal
 
 pub returns-in-Table : goal.returns-in-Table

@@ -1,13 +1,9 @@
 -- The answers that the search does not find.
-use mathlib.Core.Path.{◌≡◌, refl}
-use Prim.Native.Nat.{◌-◌, ◌≤◌}
+use mathlib.Core.Path.{refl}
 use native.Mathlib.Omega.{arith}
 use borrow.Author.Rules.{rules}
-use lib.ListN.{length}
 use Rattle.header.specs.Header.{meant}
-use Rattle.marks.specs.Marks.{Every}
-use Rattle.frames.specs.Frames.{Passed}
-use Rattle.read.proofs.Walks.{Scanning, scan-first, scan-noted, scan-end, scan-bad, scan-moves, scan-next}
+use Rattle.read.proofs.Walks.{scan-first, scan-noted, scan-end, scan-bad, scan-moves, scan-next}
 use Rattle.read.proofs.judge_all.Goals as goal
 
 pub loop-p-init : goal.loop-p-init
@@ -38,7 +34,7 @@ loop-p-preserved c =
     let a = c.args in
     let e = rw c.in-Next.is at c.judge.ensures in
     let m = scan-moves (meant a.t) a.c.now a.revision a.mask c.loop-p.p c.loop-p.count c.loop-p.invariant.1 c.loop-p-test.true _ e in
-    (omega arith, scan-next (meant a.t) a.c.now a.revision a.mask c.loop-p.p c.loop-p.count c.loop-p.invariant.1 c.loop-p-test.true _ e, judge-requires c c.judge.lifetimes, search rules)
+    (omega arith, scan-next (meant a.t) a.c.now a.revision a.mask c.loop-p.p c.loop-p.count c.loop-p.invariant.1 c.loop-p-test.true _ e, scan-noted (meant a.t) a.c.now a.revision a.mask c.loop-p.p c.loop-p.count c.loop-p.invariant.1 a.shift c.loop-p.p c.loop-p.marks _ (omega (arith, c.requires.0, c.loop-p-test.true)) c.note.ensures c.loop-p.invariant.2, search rules)
 
 pub returns-in-Refused : goal.returns-in-Refused
 returns-in-Refused c =

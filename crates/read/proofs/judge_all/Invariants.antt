@@ -1,13 +1,11 @@
 -- `judge_all` meets its contract. The invariant: past so many records, what the whole walk gives is still to come from here on.
-use mathlib.Core.Path.{◌≡◌, refl}
+use mathlib.Core.Path.{◌≡◌}
 use Prim.Native.Nat.{◌-◌, ◌≤◌}
-use native.Mathlib.Omega.{arith}
-use borrow.Author.Rules.{rules}
 use lib.ListN.{length}
 use Rattle.header.specs.Header.{meant}
 use Rattle.marks.specs.Marks.{Every}
 use Rattle.frames.specs.Frames.{Passed}
-use Rattle.read.proofs.Walks.{Scanning, scan-first, scan-noted, scan-end, scan-bad, scan-moves, scan-next}
+use Rattle.read.proofs.Walks.{Scanning}
 use Rattle.read.proofs.judge_all.Given as goal
 
 abbrev pub invariant-loop-p : goal.invariant-loop-p

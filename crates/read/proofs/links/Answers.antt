@@ -1,13 +1,9 @@
 -- The answers that the search does not find.
-use mathlib.Core.Path.{◌≡◌, sym, ◌∙◌}
-use Prim.Native.Nat.{◌-◌, ◌*◌, ◌≤◌}
+use mathlib.Core.Path.{sym, ◌∙◌}
 use native.Mathlib.Nat.{sub-zero}
 use native.Mathlib.Omega.{arith}
-use borrow.Author.Rules.{rules}
-use lib.ListN.{drop}
 use Rattle.format.specs.Table.{pptt}
 use Rattle.frames.specs.Frames.{refers}
-use Rattle.read.specs.Places.{linked}
 use Rattle.read.proofs.Refs.{linked-turn, linked-end}
 use Rattle.read.proofs.links.Goals as goal
 

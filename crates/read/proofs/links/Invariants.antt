@@ -1,15 +1,10 @@
 -- `links` meets its contract. The invariant: the list is good if what the loop has not passed yet is.
-use mathlib.Core.Path.{◌≡◌, sym, ◌∙◌}
+use mathlib.Core.Path.{◌≡◌}
 use Prim.Native.Nat.{◌-◌, ◌*◌, ◌≤◌}
-use native.Mathlib.Nat.{sub-zero}
-use native.Mathlib.Omega.{arith}
-use borrow.Author.Rules.{rules}
-use borrow.Author.Tests.{not-true, not-false}
 use lib.ListN.{drop}
 use Rattle.format.specs.Table.{pptt}
 use Rattle.frames.specs.Frames.{refers}
 use Rattle.read.specs.Places.{linked}
-use Rattle.read.proofs.Refs.{linked-turn, linked-end}
 use Rattle.read.proofs.links.Given as goal
 
 abbrev pub invariant-loop-i : goal.invariant-loop-i

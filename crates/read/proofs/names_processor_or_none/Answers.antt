@@ -1,5 +1,4 @@
 -- `names_processor_or_none` meets its contract: 0 is none, and any other handle is good if it refers to a processor.
-use borrow.Author.Rules.{rules}
 use borrow.Author.Tests.{eq-eqb, ne_eqb}
 use Rattle.read.proofs.names_processor_or_none.Goals as goal
 

@@ -1,6 +1,5 @@
 -- `node_in` meets its contract: of each row the node that its type reads.
 use mathlib.Core.Path.{refl, ◌∙◌}
-use borrow.Author.Rules.{rules}
 use Rattle.format.specs.Row.{caches, memories, initiators, old_rintcs, domains, matrices, sides, bridges, windows, xors, rintcs, form_in}
 use Rattle.format.specs.Read.{shown, fields_of}
 use Rattle.pptt.specs.Cache.{cache_node}
@@ -40,9 +39,9 @@ returns-in-Domains c = rw c.in-Domains.is (refl, shown-domain c.get-in-Domains.r
 
 pub returns-in-Matrices : goal.returns-in-Matrices
 returns-in-Matrices c =
-    let ((w, _), e) = c.enum_told-in-Matrices-1.given in
+    let w = meant_width c.in-Matrices.field-0 in
     let m = c.get-in-Matrices.result in
-    rw e (matrix-row _ m (c.get-in-Matrices.ensures (meant_width w)) (c.requires.counts (meant_width w) (rw e)), shown-matrix m _ (c.get-in-Matrices.ensures (meant_width w)) ∙ node-shown (matrices (meant_width w)) _)
+    rw c.in-Matrices.is (matrix-row _ m (c.get-in-Matrices.ensures w) (c.requires.counts w (rw c.in-Matrices.is)), shown-matrix m _ (c.get-in-Matrices.ensures w) ∙ node-shown (matrices w) _)
 
 pub returns-in-Sides : goal.returns-in-Sides
 returns-in-Sides c = rw c.in-Sides.is (refl, shown-side c.get-in-Sides.result _ c.get-in-Sides.ensures ∙ node-shown sides _)

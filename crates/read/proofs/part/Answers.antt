@@ -1,6 +1,5 @@
 -- `part` meets its contract: of an accepted table the part of the record at its place, else nothing.
 use mathlib.Core.Path.{◌∙◌}
-use borrow.Author.Rules.{rules}
 use Rattle.read.proofs.Listing.{part-found, part-lacks, part-refused}
 use Rattle.read.proofs.part.Goals as goal
 

@@ -1,6 +1,5 @@
 -- `part_at` meets its contract: the part of what is seen at the place, of the table that is signed.
 use mathlib.Core.Path.{ap, ◌∙◌}
-use borrow.Author.Rules.{rules}
 use Rattle.format.specs.Read.{Seen, part_of}
 use Rattle.read.proofs.Listing.{seen-signed, seen-unsigned}
 use Rattle.read.proofs.part_at.Goals as goal

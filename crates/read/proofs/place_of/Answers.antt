@@ -1,10 +1,7 @@
 -- The answers that the search does not find.
-use mathlib.Core.Path.{◌≡◌, sym, ap, ◌∙◌}
-use Prim.Native.Nat.{◌≤◌, max}
+use mathlib.Core.Path.{sym, ap, ◌∙◌}
 use native.Mathlib.Omega.{arith}
-use borrow.Author.Rules.{rules}
 use lib.ListN.{length}
-use Rattle.read.specs.Places.{first_place, behind}
 use Rattle.read.proofs.Listing.{first-low, body-room, behind-next, behind-end}
 use Rattle.read.proofs.place_of.Goals as goal
 

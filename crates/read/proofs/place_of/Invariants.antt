@@ -1,11 +1,8 @@
 -- `place_of` meets its contract. The invariant: as many records are left to pass from here as there were from the first place on.
-use mathlib.Core.Path.{◌≡◌, sym, ap, ◌∙◌}
+use mathlib.Core.Path.{◌≡◌}
 use Prim.Native.Nat.{◌≤◌, max}
-use native.Mathlib.Omega.{arith}
-use borrow.Author.Rules.{rules}
 use lib.ListN.{length}
 use Rattle.read.specs.Places.{first_place, behind}
-use Rattle.read.proofs.Listing.{first-low, body-room, behind-next, behind-end}
 use Rattle.read.proofs.place_of.Given as goal
 
 abbrev pub invariant-loop-left : goal.invariant-loop-left

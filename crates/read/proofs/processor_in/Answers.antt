@@ -1,5 +1,4 @@
 -- `processor_in` meets its contract: the fields of the record, and the number of resources by its length.
-use borrow.Author.Rules.{rules}
 use Rattle.read.proofs.Fields.{processor-shown}
 use Rattle.read.proofs.processor_in.Goals as goal
 

@@ -1,6 +1,5 @@
 -- `read` meets its contract: of an accepted table the record at its place, or that there is none.
 use mathlib.Core.Path.{ap, ◌∙◌}
-use borrow.Author.Rules.{rules}
 use Rattle.format.specs.Bytes.{given}
 use Rattle.format.specs.Read.{Reading}
 use Rattle.read.proofs.Listing.{read_found, read-lacks, read-refused}

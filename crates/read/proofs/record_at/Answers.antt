@@ -1,6 +1,5 @@
 -- `record_at` meets its contract: what is shown of the bytes at the place, of the table that is signed.
 use mathlib.Core.Path.{ap, ◌∙◌}
-use borrow.Author.Rules.{rules}
 use Rattle.format.specs.Read.{fields_of, reading_of}
 use Rattle.read.proofs.Listing.{seen-signed, seen-unsigned}
 use Rattle.read.proofs.record_at.Goals as goal

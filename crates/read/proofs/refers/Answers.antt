@@ -1,6 +1,5 @@
 -- `refers` meets its contract: the place is before the own record, and the start of one of the type.
 use mathlib.Core.Path.{sym, ◌∙◌}
-use borrow.Author.Rules.{rules}
 use borrow.Author.Tests.{lt-ltb, le-ltb}
 use Rattle.format.specs.Table.{pptt}
 use Rattle.frames.specs.Frames.{refers}

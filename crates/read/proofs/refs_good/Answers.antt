@@ -1,6 +1,5 @@
 -- `refs_good` meets its contract, row by row.
 use mathlib.Core.Path.{◌∙◌}
-use borrow.Author.Rules.{rules}
 use Rattle.format.specs.Row.{memories, initiators, old_rintcs, domains, matrices, sides, bridges, windows, xors, rintcs}
 use Rattle.read.proofs.Refs.{bare-refs, none-refs, cache-refs, processor-refs}
 use Rattle.read.proofs.refs_good.Goals as goal

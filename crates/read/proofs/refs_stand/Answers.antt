@@ -1,7 +1,6 @@
 -- `refs_stand` meets its contract: a PPTT's references are judged, and a row of another table has none.
 use mathlib.Core.Path.{◌≡◌, ap}
 use native.Mathlib.Omega.{arith}
-use borrow.Author.Rules.{rules}
 use Rattle.format.specs.Table.{pptt, srat, hmat, cedt, code}
 use Rattle.header.specs.Header.{meant}
 use Rattle.read.proofs.Refs.{other-refs}

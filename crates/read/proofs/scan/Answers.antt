@@ -1,5 +1,4 @@
 -- `scan` meets its contract: where no mark is kept, each is right.
-use borrow.Author.Rules.{rules}
 use Rattle.header.specs.Header.{meant}
 use Rattle.marks.proofs.Laws.{none_kept}
 use Rattle.frames.specs.Frames.{Passed}

@@ -1,5 +1,4 @@
 -- `show` meets its contract: type, length, row and fields of the record's bytes.
-use borrow.Author.Rules.{rules}
 use Rattle.header.specs.Header.{meant}
 use Rattle.read.proofs.Fields.{known-fits}
 use Rattle.read.proofs.show.Goals as goal
@@ -11,4 +10,4 @@ node_in-requires c =
 
 pub returns : goal.returns
 returns c count =
-    rw (c.Node-in.ensures.0, c.Node-in.ensures.1, c.known.ensures, c.row_of-row.ensures, c.type_in.ensures)
+    rw (c.node_in.ensures.0, c.node_in.ensures.1, c.known.ensures, c.row_of-row.ensures, c.type_in.ensures)

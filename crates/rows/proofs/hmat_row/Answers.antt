@@ -1,6 +1,6 @@
 -- `hmat_row` meets its contract: each arm has the revision and the type of one row, or of the two matrices.
 use mathlib.Core.Path.{refl, ◌∙◌}
-use borrow.Author.Rules.{rules}
+use native.Mathlib.Omega.{arith}
 use borrow.Author.Tests.{eq-eqb, ne_eqb}
 use Rattle.format.specs.Bytes.{part}
 use Rattle.format.specs.Table.{hmat}
@@ -22,8 +22,8 @@ returns-in-1 c = c.matrix_row.ensures ∙ by-counts _ c.if-revision-ne-HMAT_REVI
 
 pub returns-in-2 : goal.returns-in-2
 unfolding column
-returns-in-2 c = c.when-in-2.ensures ∙ by-column sides _ tt c.if-revision-ne-HMAT_REVISION.false c.long_type.ensures c.in-2.is c.fits2.ensures
+returns-in-2 c = c.when-in-2.ensures ∙ by-column sides _ tt c.if-revision-ne-HMAT_REVISION.false c.long_type.ensures c.in-2.is c.fits.ensures
 
 pub returns-in_default : goal.returns-in_default
 unfolding row_of matches part
-returns-in_default c = simp (ne_eqb _ 0 c.in_default.in_default-own.rest.0.0.1, ne_eqb _ 1 c.in_default.in_default-own.rest.0.1, ne_eqb _ 2 c.in_default.in_default-own.rest.1, ← c.long_type.ensures, eq-eqb _ _ c.if-revision-ne-HMAT_REVISION.false)
+returns-in_default c = simp (ne_eqb c.long_type.result 0 (omega arith), ne_eqb c.long_type.result 1 (omega arith), ne_eqb c.long_type.result 2 (omega arith), ← c.long_type.ensures, eq-eqb _ _ c.if-revision-ne-HMAT_REVISION.false)

@@ -1,6 +1,6 @@
 -- `pptt_row` meets its contract: each arm has the revision and the type of one row.
 use mathlib.Core.Path.{refl, ◌∙◌}
-use borrow.Author.Rules.{rules}
+use native.Mathlib.Omega.{arith}
 use borrow.Author.Tests.{eq-eqb, ne_eqb}
 use Rattle.format.specs.Bytes.{part}
 use Rattle.format.specs.Table.{pptt}
@@ -14,7 +14,7 @@ returns-then-revision-ne-PPTT_REVISION c = other-revision pptt c.args.body.now c
 
 pub returns-in-0 : goal.returns-in-0
 unfolding column
-returns-in-0 c = c.when.ensures ∙ by-column processors _ tt c.if-revision-ne-PPTT_REVISION.false c.short_type.ensures c.in-0.is c.fits2.ensures
+returns-in-0 c = c.when.ensures ∙ by-column processors _ tt c.if-revision-ne-PPTT_REVISION.false c.short_type.ensures c.in-0.is c.fits.ensures
 
 pub returns-in-1 : goal.returns-in-1
 unfolding column
@@ -22,4 +22,4 @@ returns-in-1 c = c.when-in-1.ensures ∙ by-column caches _ tt c.if-revision-ne-
 
 pub returns-in_default : goal.returns-in_default
 unfolding row_of matches part
-returns-in_default c = simp (ne_eqb _ 0 c.in_default.in_default-own.rest.0.1, ne_eqb _ 1 c.in_default.in_default-own.rest.1, ← c.short_type.ensures, eq-eqb _ _ c.if-revision-ne-PPTT_REVISION.false)
+returns-in_default c = simp (ne_eqb c.short_type.result 0 (omega arith), ne_eqb c.short_type.result 1 (omega arith), ← c.short_type.ensures, eq-eqb _ _ c.if-revision-ne-PPTT_REVISION.false)

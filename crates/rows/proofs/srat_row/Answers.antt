@@ -1,6 +1,6 @@
 -- `srat_row` meets its contract: each arm has the revision and the type of one row, or of the two RINTCs.
 use mathlib.Core.Path.{refl, ◌∙◌}
-use borrow.Author.Rules.{rules}
+use native.Mathlib.Omega.{arith}
 use borrow.Author.Tests.{eq-eqb, ne_eqb}
 use Rattle.format.specs.Bytes.{part}
 use Rattle.format.specs.Table.{srat}
@@ -26,4 +26,4 @@ returns-in-7 c = c.rintc_row.ensures ∙ by-columns _ c.if-revision-ne-SRAT_REVI
 
 pub returns-in_default : goal.returns-in_default
 unfolding row_of matches part
-returns-in_default c = simp (ne_eqb _ 1 c.in_default.in_default-own.rest.0.0.1, ne_eqb _ 5 c.in_default.in_default-own.rest.0.1, ne_eqb _ 7 c.in_default.in_default-own.rest.1, ← c.short_type.ensures, eq-eqb _ _ c.if-revision-ne-SRAT_REVISION.false)
+returns-in_default c = simp (ne_eqb c.short_type.result 1 (omega arith), ne_eqb c.short_type.result 5 (omega arith), ne_eqb c.short_type.result 7 (omega arith), ← c.short_type.ensures, eq-eqb _ _ c.if-revision-ne-SRAT_REVISION.false)
