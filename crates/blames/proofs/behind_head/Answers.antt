@@ -1,6 +1,5 @@
 -- `behind_head` meets its contract: the words of the record that holds the place; none where no record does.
 use mathlib.Core.Path.{sym, ap, ◌∙◌}
-use borrow.Author.Rules.{rules}
 use Rattle.blames.specs.Words.{record_words}
 use Rattle.blames.specs.Holders.{held_by}
 use Rattle.blames.proofs.behind_head.Goals as goal

@@ -1,7 +1,6 @@
 -- `cell` meets its contract: the fields of a cell begin where the widths before them end.
 use mathlib.Core.Path.{◌≡◌, sym, ◌∙◌}
 use Prim.Native.Nat.{◌+◌}
-use borrow.Author.Rules.{rules}
 use Rattle.format.specs.Form.{octets}
 use Rattle.format.specs.Kind.{body}
 use Rattle.hmat.specs.Widths.{meant_width}

@@ -1,6 +1,5 @@
 -- `field` meets its contract: each way through its tests is a case of the words.
 use mathlib.Core.Path.{sym, ap, ◌∙◌}
-use borrow.Author.Rules.{rules}
 use Rattle.header.specs.Header.{coded_as}
 use Rattle.blames.proofs.Heads.{no-head, past_end, inside, behind, no_table}
 use Rattle.blames.proofs.field.Goals as goal

@@ -1,6 +1,5 @@
 -- `field_of` meets its contract: each kind has its fields.
 use mathlib.Core.Path.{◌∙◌}
-use borrow.Author.Rules.{rules}
 use Rattle.blames.proofs.field_of.Goals as goal
 
 pub returns-in-Processor : goal.returns-in-Processor

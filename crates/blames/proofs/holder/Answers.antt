@@ -1,15 +1,9 @@
 -- The answers that the search does not find.
-use mathlib.Core.Path.{◌≡◌, refl, sym, ap, ◌∙◌}
-use Prim.Native.Nat.{◌-◌}
+use mathlib.Core.Path.{refl, sym, ap, ◌∙◌}
 use native.Mathlib.Omega.{arith}
-use borrow.Author.Rules.{rules}
 use borrow.Author.Tests.{lt-ltb, le-ltb}
-use lib.ListN.{length, drop}
-use Rattle.format.specs.Recipe.{cut}
-use Rattle.header.specs.Header.{meant}
 use Rattle.recipe.specs.Kinds.{meant_kind, named}
 use Rattle.recipe.proofs.Numbers.{no_kind_lem, body-short}
-use Rattle.blames.specs.Words.{holder}
 use Rattle.blames.proofs.Records.{holder-end, holder-unknown, holder-next}
 use Rattle.blames.proofs.holder.Goals as goal
 
@@ -18,7 +12,7 @@ loop-at-init c = refl
 
 pub returns-in_default : goal.returns-in_default
 returns-in_default c =
-    let e = sym c.kind_of.ensures.result_value ∙ no_kind_lem c.kind_of.result c.in_default.in_default-own.keys2 in
+    let e = sym c.kind_of.ensures.result_value ∙ no_kind_lem c.kind_of.result c.in_default.not-As in
     sym (holder-unknown _ _ _ _ c.loop-at-test.true e) ∙ c.loop-at.invariant
 
 pub overflow_add-end-in-loop-at : goal.overflow_add-end-in-loop-at

@@ -1,6 +1,5 @@
 -- `in_head` meets its contract: the words of the table code, computed, and none elsewhere.
 use mathlib.Core.Path.{◌∙◌}
-use borrow.Author.Rules.{rules}
 use borrow.Author.Tests.{ne_eqb}
 use Rattle.format.specs.Listing.{digits}
 use Rattle.blames.specs.Words.{of_the, words, head_words}

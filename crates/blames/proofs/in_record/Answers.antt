@@ -1,6 +1,5 @@
 -- `in_record` meets its contract: no field begins before the body, and behind its words the place is laid.
 use mathlib.Core.Path.{◌∙◌}
-use borrow.Author.Rules.{rules}
 use Rattle.recipe.specs.Kinds.{meant_kind}
 use Rattle.text.proofs.Laws.{laid-behind}
 use Rattle.blames.specs.Words.{words, record_words}

@@ -1,7 +1,6 @@
 -- `matrix` meets its contract: the fields of a matrix begin where the widths before them end.
 use mathlib.Core.Path.{sym, ◌∙◌}
 use Prim.Native.Nat.{◌+◌}
-use borrow.Author.Rules.{rules}
 use borrow.Author.Tests.{ne_eqb}
 use Rattle.format.specs.Form.{octets}
 use Rattle.format.specs.Kind.{body}

@@ -1,6 +1,5 @@
 -- `processor` meets its contract: the fields of a processor begin where the widths before them end.
 use mathlib.Core.Path.{◌∙◌}
-use borrow.Author.Rules.{rules}
 use borrow.Author.Tests.{ne_eqb}
 use Rattle.format.specs.Kind.{body}
 use Rattle.blames.specs.Words.{record_name, field_names, name_at, of_the, field_of}

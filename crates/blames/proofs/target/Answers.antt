@@ -1,6 +1,5 @@
 -- `target` meets its contract: the fields of a target's value begin where the widths before them end.
 use mathlib.Core.Path.{sym, ◌∙◌}
-use borrow.Author.Rules.{rules}
 use Rattle.format.specs.Kind.{body}
 use Rattle.hmat.specs.Widths.{meant_width}
 use Rattle.blames.specs.Words.{record_name, field_names, name_at, of_the, field_of}
