@@ -4,14 +4,11 @@ use Prim.Native.Nat.{ℕ, zero, suc, ◌+◌, ◌-◌, ◌≤◌, ◌<◌}
 use mathlib.Core.List.{List, [], ◌∷◌, ◌++◌}
 use native.Mathlib.Omega.{arith}
 use lib.ListN.{length}
-use denote.Enum.Declared.{tag_of}
-use types.Run.{OneOf, miss}
 use Rattle.format.specs.Bytes.{Answer, refused, given}
 use Rattle.format.specs.Read.{Seen, accept, reading_of}
 use Rattle.format.specs.Out.{every}
 use Rattle.format.specs.Listing.{whether, refused_words, first_line, record_line, record_lines, lines_of}
 use Rattle.laws.proofs.Finds.{then-given}
-use Rattle.read.specs.contracts.Node.{the_type}
 use Rattle.read.specs.declared.Node.{Node}
 use Rattle.read.specs.declared.Node.TheVariants.{Processor, Cache, Memory, Initiator, OldRintc, Domain, Matrix, Side, Bridge, Window, Xor, Rintc, Unknown}
 use Rattle.read.specs.declared.Shown.{Shown}
@@ -19,8 +16,8 @@ use Rattle.read.specs.Answers.{row_in, shown_as}
 use Rattle.read.specs.Places.{counted, seen_at, first_place, seen_from}
 use Rattle.read.proofs.Listing.{shown-next, all-records}
 
--- the tags are those of the nodes that are known
-pub known-line : (n : Node) → OneOf (0 ∷ 1 ∷ 2 ∷ 3 ∷ 4 ∷ 5 ∷ 6 ∷ 7 ∷ 8 ∷ 9 ∷ 10 ∷ 11 ∷ []) (tag_of the_type n) → whether (row_in n) ≡ 32 ∷ 107 ∷ 110 ∷ 111 ∷ 119 ∷ 110 ∷ 10 ∷ []
+-- each node but Unknown is known
+pub known-line : (n : Node) → (n ≡ Unknown → ⊥) → whether (row_in n) ≡ 32 ∷ 107 ∷ 110 ∷ 111 ∷ 119 ∷ 110 ∷ 10 ∷ []
 known-line (Processor n) h = refl
 known-line (Cache n) h = refl
 known-line (Memory n) h = refl
@@ -33,7 +30,7 @@ known-line (Bridge n) h = refl
 known-line (Window n) h = refl
 known-line (Xor n) h = refl
 known-line (Rintc n) h = refl
-known-line Unknown h = absurd (miss (0 ∷ 1 ∷ 2 ∷ 3 ∷ 4 ∷ 5 ∷ 6 ∷ 7 ∷ 8 ∷ 9 ∷ 10 ∷ 11 ∷ []) 12 tt h)
+known-line Unknown h = absurd (h refl)
 
 -- the line of what is seen
 abbrev pub line_of : Seen → List ℕ

@@ -1,7 +1,7 @@
 -- Two outcomes of a function that meet its contract show the same: each contract equates the buffer afterwards, or the result, with one thing.
 use Rattle.laws.specs.Unique.{Fixes}
 use Rattle.laws.proofs.Sole.{sole}
-use Rattle.numbers.proofs.row_number.Reads as row_number_lem
+use Rattle.numbers.proofs.row_number.Reads as row-number
 use Rattle.numbers.proofs.put_fields.Reads as put-fields
 use Rattle.numbers.proofs.fields_count.Reads as fields-count
 
@@ -9,14 +9,14 @@ use Rattle.numbers.proofs.fields_count.Reads as fields-count
 
 -- for each public function: what its contract fixes of the result `x` and of the parameters afterwards, `p`
 pub record Unique : Type 0 where
-  row_number_lem : Fixes row_number.Learnt (λ k x p. x)
+  row-number : Fixes row-number.Learnt (λ k x p. x)
   put-fields : Fixes put-fields.Learnt (λ k x p. p.1.0.now)
   fields-count : Fixes fields-count.Learnt (λ k x p. x)
 
 pub unique : Unique
 unique =
     record {
-      row_number_lem = λ k a x y p q. sole;
+      row-number = λ k a x y p q. sole;
       put-fields = λ k a x y p q. sole;
       fields-count = λ k a x y p q. sole;
     }

@@ -1,6 +1,5 @@
 -- `lists::first_line` meets its contract: its five pieces, each behind the one before.
 use mathlib.Core.Path.{◌∙◌}
-use borrow.Author.Rules.{rules}
 use Rattle.format.specs.Listing.{first_line}
 use Rattle.laws.proofs.Bytes.{value-byte}
 use Rattle.text.proofs.Laws.{laid-behind}

@@ -2,7 +2,6 @@
 use mathlib.Core.Path.{ap, ◌∙◌}
 use mathlib.Core.List.{List}
 use Prim.Native.Nat.{ℕ}
-use borrow.Author.Rules.{rules}
 use Rattle.text.specs.Text.{laid}
 use Rattle.text.proofs.Laws.{laid_next}
 use Rattle.lists.proofs.Turns.{lines-given, lines-refused}

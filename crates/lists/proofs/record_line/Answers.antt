@@ -1,6 +1,5 @@
 -- `lists::record_line` meets its contract: its four pieces, each behind the one before.
 use mathlib.Core.Path.{◌∙◌}
-use borrow.Author.Rules.{rules}
 use Rattle.format.specs.Listing.{record_line}
 use Rattle.text.proofs.Laws.{laid-behind}
 use Rattle.lists.proofs.record_line.Goals as goal

@@ -1,14 +1,8 @@
 -- The answers that the search does not find.
-use mathlib.Core.Path.{◌≡◌, refl, ◌∙◌}
-use Prim.Native.Nat.{◌≤◌, max}
+use mathlib.Core.Path.{refl, ◌∙◌}
 use native.Mathlib.Omega.{arith}
-use borrow.Author.Rules.{rules}
-use lib.ListN.{length}
 use Rattle.format.specs.Out.{every}
-use Rattle.format.specs.Listing.{record_lines}
-use Rattle.read.specs.Places.{first_place, seen_from}
 use Rattle.read.proofs.Listing.{first-low, body-room, shown-next}
-use Rattle.text.specs.Text.{laid}
 use Rattle.text.proofs.Laws.{laid-low, laid-behind, laid-turn, laid_end}
 use Rattle.lists.proofs.Turns.{lines-turn, lines_end}
 use Rattle.lists.proofs.record_lines.Goals as goal
@@ -22,7 +16,7 @@ loop-left-init c =
 pub overflow_add-place : goal.overflow_add-place
 overflow_add-place c =
     let b = c.args.table.now in
-    omega (arith, c.well-formed.0, shown-next b every c.loop-left.place c.record_at-s.result (c.record_at-s.ensures 0), body-room b c.loop-left.place)
+    omega (arith, c.well_formed.0, shown-next b every c.loop-left.place c.record_at-s.result (c.record_at-s.ensures 0), body-room b c.loop-left.place)
 
 pub loop-left-preserved : goal.loop-left-preserved
 loop-left-preserved c =

@@ -1,16 +1,11 @@
 -- `lists::record_lines` meets its contract. The invariant: the lines still to come, laid behind those that have come, give the answer.
-use mathlib.Core.Path.{◌≡◌, refl, ◌∙◌}
+use mathlib.Core.Path.{◌≡◌}
 use Prim.Native.Nat.{◌≤◌, max}
-use native.Mathlib.Omega.{arith}
-use borrow.Author.Rules.{rules}
 use lib.ListN.{length}
 use Rattle.format.specs.Out.{every}
 use Rattle.format.specs.Listing.{record_lines}
 use Rattle.read.specs.Places.{first_place, seen_from}
-use Rattle.read.proofs.Listing.{first-low, body-room, shown-next}
 use Rattle.text.specs.Text.{laid}
-use Rattle.text.proofs.Laws.{laid-low, laid-behind, laid-turn, laid_end}
-use Rattle.lists.proofs.Turns.{lines-turn, lines_end}
 use Rattle.lists.proofs.record_lines.Given as goal
 
 abbrev pub invariant-loop-left : goal.invariant-loop-left
