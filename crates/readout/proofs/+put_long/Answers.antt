@@ -1,5 +1,4 @@
 -- `put_long` meets its contract: before the first record no mark is kept.
-use borrow.Author.Rules.{rules}
 use Rattle.header.specs.Header.{meant}
 use Rattle.marks.proofs.Laws.{none_kept}
 use Rattle.frames.specs.Frames.{Passed}
@@ -8,4 +7,4 @@ use Rattle.readout.proofs.+put_long.Goals as goal
 pub put_records-requires : goal.put_records-requires
 put_records-requires t c =
     let s = c.args in
-    (none_kept (Passed (meant s.t) s.c.now) 65536, c.requires.1)
+    (none_kept (Passed (meant s.t) s.c.now) 65536, c.requires)

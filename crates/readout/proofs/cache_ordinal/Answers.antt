@@ -1,5 +1,4 @@
 -- `cache_ordinal` meets its contract: by the ordinal.
-use borrow.Author.Rules.{rules}
 use Rattle.readout.proofs.cache_ordinal.Goals as goal
 
 pub returns : goal.returns

@@ -3,7 +3,6 @@ use mathlib.Core.Path.{◌≡◌, refl}
 use Prim.Native.Nat.{ℕ, ◌-◌, ◌*◌, ◌/◌, ◌≤◌}
 use mathlib.Core.Option.{some}
 use native.Mathlib.Omega.{arith}
-use borrow.Author.Rules.{rules}
 use Rattle.format.specs.Layout.{width}
 use Rattle.format.specs.Table.{limit}
 use Rattle.format.specs.Form.{cache, memory, rintc, domain}
@@ -30,7 +29,8 @@ overflow_add-result-in-Processors-2 c = omega (arith, few _ _ c.requires.short c
 
 pub put_matrix-requires : goal.put_matrix-requires
 put_matrix-requires c =
-    let ((w, _), i) = c.enum_told-in-Matrices-1.given in
+    let w = c.in-Matrices.field-0 in
+    let i = c.in-Matrices.is in
     let e : row_meant c.args.row ≡ some (matrices (meant_width w)) = rw i in
     (c.requires.initiators (meant_width w) e, c.requires.targets (meant_width w) e, omega arith)
 

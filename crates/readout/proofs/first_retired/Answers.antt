@@ -1,6 +1,5 @@
 -- `first_retired` meets its contract: by the place so far, then by the row.
 use mathlib.Core.Path.{sym, ◌∙◌}
-use borrow.Author.Rules.{rules}
 use borrow.Author.Tests.{eq-eqb, ne_eqb}
 use Rattle.readout.proofs.first_retired.Goals as goal
 

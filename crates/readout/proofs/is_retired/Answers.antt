@@ -2,7 +2,6 @@
 use mathlib.Core.Path.{◌≡◌, refl}
 use mathlib.Core.Bool.{false}
 use mathlib.Core.Option.{some}
-use borrow.Author.Rules.{rules}
 use Rattle.format.specs.Form.{Width, byte, pair}
 use Rattle.format.specs.Row.{matrices, is_retired}
 use Rattle.hmat.specs.Widths.{meant_width}
@@ -13,4 +12,4 @@ matrix-kept byte = refl
 matrix-kept pair = refl
 
 pub returns-in-Matrices : goal.returns-in-Matrices
-returns-in-Matrices c = let ((w, _), e) = c.enum_told-in-Matrices-1.given in rw e (matrix-kept (meant_width w))
+returns-in-Matrices c = rw c.in-Matrices.is (matrix-kept (meant_width c.in-Matrices.field-0))

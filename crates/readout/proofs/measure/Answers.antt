@@ -1,14 +1,10 @@
 -- The answers that the search does not find.
 use mathlib.Core.Path.{sym, ◌∙◌}
-use Prim.Native.Nat.{◌-◌, ◌+◌, ◌*◌, ◌≤◌, ◌<◌}
 use native.Mathlib.Omega.{arith}
-use borrow.Author.Rules.{rules}
-use lib.ListN.{length}
 use Rattle.header.specs.Header.{meant}
 use Rattle.header.proofs.Laws.{front_long}
 use Rattle.rows.specs.Rows.{row_meant}
-use Rattle.readout.specs.Bounds.{record_most}
-use Rattle.readout.proofs.Scans.{Counting, counting-start, counting-end, counting-bad, counting-unknown, counting-next, small-record, Turn, turns}
+use Rattle.readout.proofs.Scans.{counting-start, counting-end, counting-bad, counting-unknown, counting-next, small-record, Turn, turns}
 use Rattle.readout.proofs.measure.Goals as goal
 
 pub loop-p-init : goal.loop-p-init
@@ -21,32 +17,32 @@ returns-then-not-framed c =
 
 pub returns-then-not-is_known : goal.returns-then-not-is_known
 returns-then-not-is_known c =
-    let T = turns _ _ _ _ _ _ _ _ c.rest-s.ensures c.framed.ensures c.if-not-framed.false c.record_in-body.ensures c.row_of-row.ensures in
+    let T : Turn (meant c.args.t) c.args.revision c.args.c.now c.loop-p.p c.record_in-body.result.now (row_meant c.row_of-row.result) = turns _ _ _ _ _ _ _ _ c.rest-s.ensures c.framed.ensures c.if-not-framed.false c.record_in-body.ensures c.row_of-row.ensures in
     counting-unknown _ _ _ T (sym c.is_known.ensures ∙ c.if-not-is_known.true) c.loop-p.invariant.2
 
 pub calls_len-q-requires : goal.calls_len-q-requires
 calls_len-q-requires c =
-    let T = turns _ _ _ _ _ _ _ _ c.rest-s.ensures c.framed.ensures c.if-not-framed.false c.record_in-body.ensures c.row_of-row.ensures in
+    let T : Turn (meant c.args.t) c.args.revision c.args.c.now c.loop-p.p c.record_in-body.result.now (row_meant c.row_of-row.result) = turns _ _ _ _ _ _ _ _ c.rest-s.ensures c.framed.ensures c.if-not-framed.false c.record_in-body.ensures c.row_of-row.ensures in
     rw c.row_of-row.ensures (small-record _ _ _ _ (omega (arith, T.inside, c.requires)))
 
 pub overflow_add-q-in-loop-p : goal.overflow_add-q-in-loop-p
 overflow_add-q-in-loop-p c =
-    let T = turns _ _ _ _ _ _ _ _ c.rest-s.ensures c.framed.ensures c.if-not-framed.false c.record_in-body.ensures c.row_of-row.ensures in
+    let T : Turn (meant c.args.t) c.args.revision c.args.c.now c.loop-p.p c.record_in-body.result.now (row_meant c.row_of-row.result) = turns _ _ _ _ _ _ _ _ c.rest-s.ensures c.framed.ensures c.if-not-framed.false c.record_in-body.ensures c.row_of-row.ensures in
     omega (arith, T.inside, c.requires, c.calls_len-q.ensures.1)
 
 pub overflow_add-p : goal.overflow_add-p
 overflow_add-p c =
-    let T = turns _ _ _ _ _ _ _ _ c.rest-s.ensures c.framed.ensures c.if-not-framed.false c.record_in-body.ensures c.row_of-row.ensures in
+    let T : Turn (meant c.args.t) c.args.revision c.args.c.now c.loop-p.p c.record_in-body.result.now (row_meant c.row_of-row.result) = turns _ _ _ _ _ _ _ _ c.rest-s.ensures c.framed.ensures c.if-not-framed.false c.record_in-body.ensures c.row_of-row.ensures in
     omega (arith, T.inside, c.requires)
 
 pub loop-p-smaller : goal.loop-p-smaller
 loop-p-smaller c =
-    let T = turns _ _ _ _ _ _ _ _ c.rest-s.ensures c.framed.ensures c.if-not-framed.false c.record_in-body.ensures c.row_of-row.ensures in
+    let T : Turn (meant c.args.t) c.args.revision c.args.c.now c.loop-p.p c.record_in-body.result.now (row_meant c.row_of-row.result) = turns _ _ _ _ _ _ _ _ c.rest-s.ensures c.framed.ensures c.if-not-framed.false c.record_in-body.ensures c.row_of-row.ensures in
     omega (arith, T.inside, T.some)
 
 pub loop-p-preserved : goal.loop-p-preserved
 loop-p-preserved c =
-    let T = turns _ _ _ _ _ _ _ _ c.rest-s.ensures c.framed.ensures c.if-not-framed.false c.record_in-body.ensures c.row_of-row.ensures in
+    let T : Turn (meant c.args.t) c.args.revision c.args.c.now c.loop-p.p c.record_in-body.result.now (row_meant c.row_of-row.result) = turns _ _ _ _ _ _ _ _ c.rest-s.ensures c.framed.ensures c.if-not-framed.false c.record_in-body.ensures c.row_of-row.ensures in
     let i = c.loop-p.invariant in
     let u = sym c.is_known.ensures ∙ c.if-not-is_known.false in
     (omega (arith, c.calls_len-q.ensures.1, T.some), omega arith, counting-next _ _ _ T _ _ i.1 u (c.calls_len-q.ensures.0 _) c.first_retired-old.ensures i.2)

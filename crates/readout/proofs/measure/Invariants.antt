@@ -1,15 +1,9 @@
 -- `measure` meets its contract. The invariant: what is still to be counted from here on, and where the first record of a retired row was so far.
-use mathlib.Core.Path.{sym, ◌∙◌}
 use Prim.Native.Nat.{◌-◌, ◌+◌, ◌*◌, ◌≤◌, ◌<◌}
-use native.Mathlib.Omega.{arith}
-use borrow.Author.Rules.{rules}
-use borrow.Author.Tests.{not-true, not-false}
 use lib.ListN.{length}
 use Rattle.header.specs.Header.{meant}
-use Rattle.header.proofs.Laws.{front_long}
-use Rattle.rows.specs.Rows.{row_meant}
 use Rattle.readout.specs.Bounds.{record_most}
-use Rattle.readout.proofs.Scans.{Counting, counting-start, counting-end, counting-bad, counting-unknown, counting-next, small-record, Turn, turns}
+use Rattle.readout.proofs.Scans.{Counting}
 use Rattle.readout.proofs.measure.Given as goal
 
 abbrev pub invariant-loop-p : goal.invariant-loop-p

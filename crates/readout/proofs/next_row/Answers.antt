@@ -1,5 +1,4 @@
 -- `next_row` meets its contract: by the test.
-use borrow.Author.Rules.{rules}
 use borrow.Author.Tests.{eq-eqb, ne_eqb}
 use Rattle.readout.proofs.next_row.Goals as goal
 

@@ -1,6 +1,5 @@
 -- `ordinal` meets its contract: what starts before the own record has the number that the walk from the nearest mark finds.
 use mathlib.Core.Path.{sym, ◌∙◌}
-use borrow.Author.Rules.{rules}
 use borrow.Author.Tests.{lt-ltb, le-ltb}
 use Rattle.format.specs.Table.{pptt}
 use Rattle.frames.proofs.Marks.{near-number}

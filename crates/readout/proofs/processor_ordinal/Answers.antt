@@ -1,5 +1,4 @@
 -- `processor_ordinal` meets its contract: by the ordinal.
-use borrow.Author.Rules.{rules}
 use Rattle.readout.proofs.processor_ordinal.Goals as goal
 
 pub returns : goal.returns

@@ -1,5 +1,4 @@
 -- `put_calls` meets its contract: before the first record no mark is kept.
-use borrow.Author.Rules.{rules}
 use Rattle.header.specs.Header.{meant}
 use Rattle.marks.proofs.Laws.{none_kept}
 use Rattle.frames.specs.Frames.{Passed}

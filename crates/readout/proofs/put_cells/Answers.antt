@@ -1,24 +1,18 @@
 -- The answers that the search does not find.
 use mathlib.Core.Path.{◌≡◌, sym, ap, ◌∙◌}
-use mathlib.Core.List.{List, [], ◌∷◌}
-use Prim.Native.Nat.{ℕ, ◌-◌, ◌+◌, ◌*◌, ◌/◌, ◌%◌, ◌≤◌}
+use mathlib.Core.List.{[], ◌∷◌}
+use Prim.Native.Nat.{ℕ, ◌-◌}
 use native.Mathlib.Nat.{zero-div, zero-mod, div-le_self, mod-le}
 use native.Mathlib.Omega.{arith}
-use borrow.Author.Rules.{rules}
-use lib.ListN.{replicate}
 use Rattle.format.specs.Layout.{as_is, fld, width}
-use Rattle.format.specs.Form.{Width}
-use Rattle.format.specs.Normal.{call, each_set}
-use Rattle.laws.specs.Offsets.{fields_at}
-use Rattle.format.specs.Kind.{Cell, body}
-use Rattle.hmat.specs.Widths.{meant_width}
-use Rattle.readout.specs.Bounds.{setting_most}
-use Rattle.readout.proofs.Lists.{Coming, all-coming, laid-length, come-set, set-laid}
+use Rattle.format.specs.Kind.{body}
+use Rattle.readout.proofs.Lists.{all-coming, laid-length, come-set, set-laid}
 use Rattle.readout.proofs.Records.{next-cell}
 use Rattle.readout.proofs.put_cells.Goals as goal
 
-abbrev cells : Width → ℕ → ℕ → ℕ → List ℕ
-cells w t e v = call (Cell w) (e / t ∷ e % t ∷ v ∷ [])
+pub put_cell-p-requires : goal.put_cell-p-requires
+unfolding width body
+put_cell-p-requires c = omega arith
 
 pub loop-e-init : goal.loop-e-init
 loop-e-init c =

@@ -1,21 +1,20 @@
 -- `put_cells` meets its contract. The invariant: the settings still to come, laid over what there is, give the answer.
-use mathlib.Core.Path.{◌≡◌, sym, ap, ◌∙◌}
+use mathlib.Core.Path.{◌≡◌}
 use mathlib.Core.List.{List, [], ◌∷◌}
 use Prim.Native.Nat.{ℕ, ◌-◌, ◌+◌, ◌*◌, ◌/◌, ◌%◌, ◌≤◌}
-use native.Mathlib.Nat.{zero-div, zero-mod, div-le_self, mod-le}
-use native.Mathlib.Omega.{arith}
-use borrow.Author.Rules.{rules}
 use lib.ListN.{replicate}
-use Rattle.format.specs.Layout.{as_is, fld, width}
+use Rattle.format.specs.Layout.{as_is, fld}
 use Rattle.format.specs.Form.{Width}
 use Rattle.format.specs.Normal.{call, each_set}
 use Rattle.laws.specs.Offsets.{fields_at}
-use Rattle.format.specs.Kind.{Cell, body}
+use Rattle.format.specs.Kind.{Cell}
 use Rattle.hmat.specs.Widths.{meant_width}
 use Rattle.readout.specs.Bounds.{setting_most}
-use Rattle.readout.proofs.Lists.{Coming, all-coming, laid-length, come-set, set-laid}
-use Rattle.readout.proofs.Records.{next-cell}
+use Rattle.readout.proofs.Lists.{Coming}
 use Rattle.readout.proofs.put_cells.Given as goal
+
+abbrev pub cells : Width → ℕ → ℕ → ℕ → List ℕ
+cells w t e v = call (Cell w) (e / t ∷ e % t ∷ v ∷ [])
 
 abbrev pub invariant-loop-e : goal.invariant-loop-e
 invariant-loop-e l =

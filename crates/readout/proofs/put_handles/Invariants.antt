@@ -1,14 +1,8 @@
 -- `put_handles` meets its contract: the loop over a list of numbers.
-use mathlib.Core.Path.{◌≡◌, refl, ap, ◌∙◌}
-use mathlib.Core.List.{[], ◌∷◌}
-use Prim.Native.Nat.{ℕ, ◌-◌}
-use native.Mathlib.Omega.{arith}
-use borrow.Author.Rules.{rules}
-use Rattle.format.specs.Layout.{as_is, fld, width}
-use Rattle.format.specs.Kind.{Handle, body}
-use Rattle.format.specs.Normal.{call}
-use Rattle.laws.proofs.Fields.{length-call}
-use Rattle.readout.proofs.Lists.{Turning, turn-first, turn-next, turn_end, laid-length}
+use Prim.Native.Nat.{◌-◌}
+use Rattle.format.specs.Layout.{as_is, fld}
+use Rattle.format.specs.Kind.{Handle}
+use Rattle.readout.proofs.Lists.{Turning}
 use Rattle.readout.proofs.put_handles.Given as goal
 
 abbrev pub invariant-loop-i : goal.invariant-loop-i

@@ -4,7 +4,6 @@ use Prim.Native.Nat.{◌-◌, ◌/◌, ◌≤◌}
 use native.Mathlib.Omega.{arith}
 use lib.ListN.{length}
 use lib.Seq.{length-take-le}
-use borrow.Author.Rules.{rules}
 use Rattle.format.specs.Layout.{width}
 use Rattle.format.specs.Table.{pptt, limit}
 use Rattle.format.specs.Form.{layout}

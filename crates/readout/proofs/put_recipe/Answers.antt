@@ -1,6 +1,5 @@
 -- `put_recipe` meets its contract: by the room; head and calls lie one behind the other.
 use mathlib.Core.Path.{refl}
-use borrow.Author.Rules.{rules}
 use borrow.Author.Tests.{lt-ltb, le-ltb}
 use Rattle.format.specs.Build.{written}
 use Rattle.header.specs.Header.{meant}

@@ -49,7 +49,8 @@ overflow_add-result-in-Domains c =
 
 pub put_matrix-requires : goal.put_matrix-requires
 put_matrix-requires c =
-    let ((w, _), i) = c.enum_told-in-Matrices-1.given in
+    let w = c.in-Matrices.field-0 in
+    let i = c.in-Matrices.is in
     let e : row_meant c.args.row ≡ some (matrices (meant_width w)) = rw i in
     (c.requires.2.initiators (meant_width w) e, c.requires.2.targets (meant_width w) e, search rules)
 

@@ -1,15 +1,11 @@
 -- The answers that the search does not find.
 use mathlib.Core.Path.{◌≡◌, refl, ap, ◌∙◌}
-use Prim.Native.Nat.{◌-◌}
 use native.Mathlib.Omega.{arith}
-use borrow.Author.Rules.{rules}
-use Rattle.format.specs.Table.{pptt}
 use Rattle.format.specs.Layout.{to, width, lay_with}
 use Rattle.format.specs.Kind.{Resource, body}
 use Rattle.laws.proofs.Fields.{length-call}
 use Rattle.pptt.specs.declared.CacheHandle.{CacheHandle}
-use Rattle.readout.specs.Places.{ordinal_at}
-use Rattle.readout.proofs.Lists.{low_word, Turning, turn-first, turn-next, turn_end, laid-length}
+use Rattle.readout.proofs.Lists.{low_word, turn-first, turn-next, turn_end, laid-length}
 use Rattle.readout.proofs.put_resources.Goals as goal
 
 pub loop-i-init : goal.loop-i-init

@@ -2,12 +2,15 @@
 use mathlib.Core.Path.{◌≡◌}
 use Prim.Native.Nat.{◌+◌, ◌*◌}
 use native.Mathlib.Omega.{arith}
-use borrow.Author.Rules.{rules}
 use Rattle.format.specs.Layout.{width}
 use Rattle.format.specs.Kind.{body}
 use Rattle.readout.proofs.Lists.{laid_on}
 use Rattle.readout.proofs.Records.{settings-at, some-targets, few-cells}
 use Rattle.readout.proofs.put_settings.Goals as goal
+
+pub put_values-q-requires : goal.put_values-q-requires
+unfolding width body
+put_values-q-requires c = omega arith
 
 pub overflow_mul-i : goal.overflow_mul-i
 overflow_mul-i c =

@@ -2,7 +2,6 @@
 use mathlib.Core.Path.{◌≡◌, refl, ◌∙◌}
 use Prim.Native.Nat.{◌≤◌}
 use native.Mathlib.Omega.{arith}
-use borrow.Author.Rules.{rules}
 use Rattle.format.specs.Layout.{width}
 use Rattle.format.specs.Kind.{Side, body}
 use Rattle.laws.proofs.Fields.{length-call}
@@ -26,6 +25,6 @@ pub returns : goal.returns
 unfolding body width
 returns c =
     let b = c.args.body.now in
-    let u : c.get-node.result.smbios_handles ≤ 65535 = omega (arith, c.get-node.type-inv.1.1.1.1.1.0) in
+    let u : c.get-node.result.smbios_handles ≤ 65535 = omega (arith, c.get-node.type_inv) in
     let z : c.put_body.result ≡ 17 = c.put_body.ensures.value ∙ length-call Side _ in
     (λ h. rw (side-calls h b c.get-node.result c.get-node.ensures) (laid_on (put-laid c.put_body.ensures.out_after c.put_body.ensures.value refl) c.put_handles.ensures.0), omega arith)

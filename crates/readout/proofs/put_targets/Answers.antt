@@ -1,14 +1,13 @@
 -- The answers that the search does not find.
 use mathlib.Core.Path.{◌≡◌, refl, ap, ◌∙◌}
 use mathlib.Core.List.{[], ◌∷◌}
-use Prim.Native.Nat.{ℕ, ◌-◌}
+use Prim.Native.Nat.{ℕ}
 use native.Mathlib.Omega.{arith}
-use borrow.Author.Rules.{rules}
 use Rattle.format.specs.Layout.{as_is, fld, width}
 use Rattle.format.specs.Kind.{WindowTarget, body}
 use Rattle.format.specs.Normal.{call}
 use Rattle.laws.proofs.Fields.{length-call}
-use Rattle.readout.proofs.Lists.{Turning, turn-first, turn-next, turn_end, laid-length}
+use Rattle.readout.proofs.Lists.{turn-first, turn-next, turn_end, laid-length}
 use Rattle.readout.proofs.put_targets.Goals as goal
 
 pub loop-i-init : goal.loop-i-init

@@ -1,7 +1,6 @@
 -- `put_value` meets its contract: by the test; a value that is set is laid with the low bytes of its index.
 use Prim.Native.Nat.{◌≤◌}
 use native.Mathlib.Omega.{arith}
-use borrow.Author.Rules.{rules}
 use borrow.Author.Tests.{eq-eqb, ne_eqb}
 use Rattle.format.specs.Layout.{width}
 use Rattle.format.specs.Kind.{body}

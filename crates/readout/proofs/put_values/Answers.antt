@@ -1,19 +1,16 @@
 -- The answers that the search does not find.
 use mathlib.Core.Path.{◌≡◌, sym, ap}
 use mathlib.Core.List.{[], ◌∷◌}
-use Prim.Native.Nat.{ℕ, ◌-◌, ◌+◌, ◌*◌, ◌≤◌}
+use Prim.Native.Nat.{ℕ, ◌-◌}
 use native.Mathlib.Omega.{arith}
-use borrow.Author.Rules.{rules}
-use lib.ListN.{replicate}
 use Rattle.format.specs.Layout.{as_is, fld, width}
 use Rattle.format.specs.Kind.{body}
-use Rattle.format.specs.Normal.{each_set}
-use Rattle.laws.specs.Offsets.{fields_at}
-use Rattle.hmat.specs.Widths.{meant_width}
-use Rattle.readout.specs.Bounds.{setting_most}
-use Rattle.readout.specs.Places.{setting}
-use Rattle.readout.proofs.Lists.{Coming, all-coming, laid-length, come-set, set-laid}
+use Rattle.readout.proofs.Lists.{all-coming, laid-length, come-set, set-laid}
 use Rattle.readout.proofs.put_values.Goals as goal
+
+pub put_value-p-requires : goal.put_value-p-requires
+unfolding width body
+put_value-p-requires c = omega arith
 
 pub loop-i-init : goal.loop-i-init
 loop-i-init c =

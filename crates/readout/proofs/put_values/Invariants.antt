@@ -1,18 +1,14 @@
 -- `put_values` meets its contract. The invariant: the settings still to come, laid over what there is, give the answer.
-use mathlib.Core.Path.{◌≡◌, sym, ap}
-use mathlib.Core.List.{[], ◌∷◌}
-use Prim.Native.Nat.{ℕ, ◌-◌, ◌+◌, ◌*◌, ◌≤◌}
-use native.Mathlib.Omega.{arith}
-use borrow.Author.Rules.{rules}
+use mathlib.Core.Path.{◌≡◌}
+use Prim.Native.Nat.{◌-◌, ◌+◌, ◌*◌, ◌≤◌}
 use lib.ListN.{replicate}
-use Rattle.format.specs.Layout.{as_is, fld, width}
-use Rattle.format.specs.Kind.{body}
+use Rattle.format.specs.Layout.{as_is, fld}
 use Rattle.format.specs.Normal.{each_set}
 use Rattle.laws.specs.Offsets.{fields_at}
 use Rattle.hmat.specs.Widths.{meant_width}
 use Rattle.readout.specs.Bounds.{setting_most}
 use Rattle.readout.specs.Places.{setting}
-use Rattle.readout.proofs.Lists.{Coming, all-coming, laid-length, come-set, set-laid}
+use Rattle.readout.proofs.Lists.{Coming}
 use Rattle.readout.proofs.put_values.Given as goal
 
 abbrev pub invariant-loop-i : goal.invariant-loop-i

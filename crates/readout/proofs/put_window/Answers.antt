@@ -1,7 +1,6 @@
 -- `put_window` meets its contract: its node is the call of its fields, and behind it are those of its list.
 use mathlib.Core.Path.{◌≡◌, refl, ◌∙◌}
 use native.Mathlib.Omega.{arith}
-use borrow.Author.Rules.{rules}
 use Rattle.format.specs.Layout.{width}
 use Rattle.format.specs.Kind.{Window, body}
 use Rattle.laws.proofs.Fields.{length-call}

@@ -1,5 +1,4 @@
 -- `read_out` meets its contract: a table that is accepted is read out by places, as the table that it is signed as.
-use borrow.Author.Rules.{rules}
 use Rattle.readout.proofs.Totals.{answered, wrote, refused-first, judged-sizes, accepted-as, accepted-signed, refused-then}
 use Rattle.readout.proofs.read_out.Goals as goal
 
@@ -12,7 +11,7 @@ pub returns-in-Table : goal.returns-in-Table
 returns-in-Table c =
     let b = c.args.table.now in
     let (h, ss, e) = accepted-as b _ _ (rw c.in-Records.is at c.accept.ensures) (rw c.in-Table.is at c.signed.ensures) in
-    (rw (answered b _ ss h e) c.read_as.ensures.result_value, rw (wrote b _ ss h e) c.read_as.ensures.out_after)
+    record { result_value = rw (answered b _ ss h e) c.read_as.ensures.result_value; out_after = rw (wrote b _ ss h e) c.read_as.ensures.out_after }
 
 pub returns-in-Other : goal.returns-in-Other
 returns-in-Other c =
@@ -23,4 +22,4 @@ pub returns-in-Refused : goal.returns-in-Refused
 returns-in-Refused c =
     let b = c.args.table.now in
     let e = refused-first b _ _ (refused-then b _ _ (rw c.in-Refused.is at c.accept.ensures)) in
-    (rw e.0, rw e.1)
+    record { result_value = rw e.0; out_after = rw e.1 }
