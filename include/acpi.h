@@ -1,4 +1,4 @@
-/* The calls of libacpi.a (`rt staticlib acpi`), for C and C++ on x86-64. docs/PROMISES.md says what is proved of them.
+/* The calls of libacpi.a (tests/library makes it), for C and C++ on x86-64. docs/PROMISES.md says what is proved of them.
  *
  * Each call that may refuse returns the refusal's number, 0 for none, and sets *place: to the refusal's place, else to
  * the number that was asked for. A refusal leaves the lent buffer as it was; bytes past what is written are kept.

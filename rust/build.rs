@@ -1,4 +1,4 @@
-//! Finds the static library: in ACPI_LIB_DIR, else where `rt staticlib acpi` writes it.
+//! Finds the static library: in ACPI_LIB_DIR, else where tests/library writes it.
 use std::path::PathBuf;
 
 fn main() {
@@ -12,7 +12,7 @@ fn main() {
     if !library.is_file() {
         eprintln!("there is no {}", library.display());
         eprintln!(
-            "make it with `rt staticlib acpi` in the repository's root, or set ACPI_LIB_DIR to the folder that has libacpi.a"
+            "make it with `tests/library` in the repository's root, or set ACPI_LIB_DIR to the folder that has libacpi.a"
         );
         std::process::exit(1);
     }

@@ -1,36 +1,26 @@
-"""How a program of target/bin is run: by itself on x86-64, elsewhere under the emulator of the Rattle kit with the kit's loader and C
-library, as rt runs it. Whatever stack its caller has, it gets 8 MiB, where its rooms are small, or as much as is asked for.
+"""How a program of target/bin is run, after tests/programs has seen that it is there and made of the sources as they are. Whatever stack its
+caller has, it gets 8 MiB, where its rooms are small, or as much as is asked for.
 """
+import functools
 import os
 import platform
 import resource
-import shutil
 import subprocess
 import sys
 
-BIN = os.path.join(os.path.dirname(os.path.abspath(__file__)), '..', 'target', 'bin')
-
-
-def kit():
-    """the folder of the Rattle kit"""
-    home, rt = os.environ.get('RATTLE_HOME'), shutil.which('rt')
-    if not home and not rt:
-        sys.exit("the Rattle kit's command rt is not on the PATH: set RATTLE_HOME to the kit's folder")
-    return home or os.path.dirname(os.path.dirname(os.path.realpath(rt)))
-
-
-def emulator():
-    """the words before a program's path"""
-    machine = platform.machine()
-    if machine == 'x86_64':
-        return []
-    tools = os.path.join(kit(), 'on', machine, 'toolchain')
-    lib = os.path.join(tools, 'lib')
-    return [os.path.join(tools, 'bin', 'qemu-x86_64'), os.path.join(lib, 'ld-linux-x86-64.so.2'), '--library-path', lib]
-
-
-EMULATOR = emulator()
+HERE = os.path.dirname(os.path.abspath(__file__))
+BIN = os.path.join(HERE, '..', 'target', 'bin')
 SMALL, LARGE = 8 << 20, 256 << 20  # bytes of stack: with LARGE a program makes large rooms
+
+
+@functools.lru_cache(maxsize=None)
+def path(name):
+    """the path of a program"""
+    if platform.machine() != 'x86_64':
+        sys.exit('the programs are for x86-64, and this machine is %s' % platform.machine())
+    if subprocess.run([os.path.join(HERE, 'programs'), name], stdin=subprocess.DEVNULL, stdout=sys.stderr).returncode:
+        sys.exit('%s is not built' % name)
+    return os.path.join(BIN, name)
 
 
 def limit(stack):
@@ -40,7 +30,7 @@ def limit(stack):
 
 def program(name, data, *words, stack=SMALL):
     """what a program writes and says of an input"""
-    done = subprocess.run([*EMULATOR, os.path.join(BIN, name), *words], input=data, capture_output=True, preexec_fn=limit(stack))
+    done = subprocess.run([path(name), *words], input=data, capture_output=True, preexec_fn=limit(stack))
     if done.returncode:
         sys.exit('%s ended with status %d: %s' % (name, done.returncode, done.stderr.decode(errors='replace')))
     return done.stdout, done.stderr
@@ -60,4 +50,4 @@ def lines(words, asked, stack=SMALL):
 
 def calls(asked, stack=SMALL):
     """the answers of the program calls (docs/CALLS.md)"""
-    return lines(EMULATOR + [os.path.join(BIN, 'calls')], asked, stack)
+    return lines([path('calls')], asked, stack)

@@ -1,4 +1,4 @@
-// What a VMM links: the calls under plain names, for C and Rust. include/acpi.h declares them.
+// What a VMM links: the calls under plain names. Crate acpi_c exports them, for C and Rust; include/acpi.h declares them.
 // Each that may refuse answers a refusal's number, 0 for none; place gets the refusal's place, or the number that was asked for.
 #![tactic(auto)]
 
@@ -18,8 +18,7 @@ use read::{Accepted, Reply, Shown};
 use recipe::Checked;
 
 // Builds the table of a recipe; place gets its length.
-#[unsafe(no_mangle)]
-pub extern "C" fn acpi_build(recipe: &[u8], out: &mut [u8], place: &mut usize) -> u32
+pub fn acpi_build(recipe: &[u8], out: &mut [u8], place: &mut usize) -> u32
     ensures value { result ≡ number_in (build recipe.now (length out.old)) }
     ensures place_after { place.new ≡ place_of (build recipe.now (length out.old)) }
     ensures out_after { out.new ≡ built recipe.now out.old }
@@ -30,8 +29,7 @@ pub extern "C" fn acpi_build(recipe: &[u8], out: &mut [u8], place: &mut usize) -
 }
 
 // Judges a recipe; place gets the length of its table.
-#[unsafe(no_mangle)]
-pub extern "C" fn acpi_check(recipe: &[u8], place: &mut usize) -> u32
+pub fn acpi_check(recipe: &[u8], place: &mut usize) -> u32
     ensures value { result ≡ number_in (checked recipe.now) }
     ensures place_after { place.new ≡ place_of (checked recipe.now) }
 {
@@ -48,8 +46,7 @@ pub extern "C" fn acpi_check(recipe: &[u8], place: &mut usize) -> u32
 }
 
 // Writes the recipe of a table; place gets its length.
-#[unsafe(no_mangle)]
-pub extern "C" fn acpi_read_out(table: &[u8], out: &mut [u8], place: &mut usize) -> u32
+pub fn acpi_read_out(table: &[u8], out: &mut [u8], place: &mut usize) -> u32
     ensures value { result ≡ number_in (read_out table.now (length out.old)) }
     ensures place_after { place.new ≡ place_of (read_out table.now (length out.old)) }
     ensures out_after { out.new ≡ out_written table.now out.old }
@@ -60,8 +57,7 @@ pub extern "C" fn acpi_read_out(table: &[u8], out: &mut [u8], place: &mut usize)
 }
 
 // Judges a table by the rows that the mask has; place gets the number of its records.
-#[unsafe(no_mangle)]
-pub extern "C" fn acpi_accept(table: &[u8], mask: u32, place: &mut usize) -> u32
+pub fn acpi_accept(table: &[u8], mask: u32, place: &mut usize) -> u32
     ensures value { result ≡ number_in (counted (format.accept table.now mask)) }
     ensures place_after { place.new ≡ place_of (counted (format.accept table.now mask)) }
 {
@@ -102,16 +98,14 @@ fn put_record(s: Shown, at: usize, len: usize, answer: &mut [u64])
 // ---- reading
 
 // Where the first record of a table starts.
-#[unsafe(no_mangle)]
-pub extern "C" fn acpi_first_place(table: &[u8]) -> usize
+pub fn acpi_first_place(table: &[u8]) -> usize
     ensures { result ≡ first_place table.now }
 {
     read::first_place(table)
 }
 
 // The record at a place, by the rows that the mask has. The next record starts behind it.
-#[unsafe(no_mangle)]
-pub extern "C" fn acpi_record_at(table: &[u8], mask: u32, place: usize, answer: &mut [u64])
+pub fn acpi_record_at(table: &[u8], mask: u32, place: usize, answer: &mut [u64])
     ensures { answer.new ≡ over answer.old 0 (numbers (reading_of 0 (seen_at table.now mask place)) (part_at table.now mask place)) }
 {
     let record = read::record_at(table, mask, place);
@@ -120,14 +114,7 @@ pub extern "C" fn acpi_record_at(table: &[u8], mask: u32, place: usize, answer: 
 }
 
 // Record number n of a table, by the rows that the mask has; place gets the number of records.
-#[unsafe(no_mangle)]
-pub extern "C" fn acpi_read(
-    table: &[u8],
-    mask: u32,
-    n: usize,
-    answer: &mut [u64],
-    place: &mut usize,
-) -> u32
+pub fn acpi_read(table: &[u8], mask: u32, n: usize, answer: &mut [u64], place: &mut usize) -> u32
     ensures value { result ≡ number_in (count_in (format.read table.now mask n)) }
     ensures place_after { place.new ≡ place_of (count_in (format.read table.now mask n)) }
     ensures answer_after { answer.new ≡ answered (format.read table.now mask n) (format.read_part table.now mask n) answer.old }
@@ -151,8 +138,7 @@ pub extern "C" fn acpi_read(
 const HIGH: u64 = 72057594037927936;
 
 // The whole sum of the bytes modulo 2^64; high gets how often 2^64 goes into it.
-#[unsafe(no_mangle)]
-pub extern "C" fn acpi_sum(bytes: &[u8], high: &mut u64) -> u64
+pub fn acpi_sum(bytes: &[u8], high: &mut u64) -> u64
     ensures value { result ≡ sum bytes.now % 2 ^ 64 }
     ensures high_after { high.new ≡ sum bytes.now / 2 ^ 64 }
 {
