@@ -2,5 +2,3 @@
 use Prim.Native.Nat.{◌-◌}
 use borrow.Author.Rules.{rules}
 use Rattle.shows.proofs.windows.maps.Given as goal
-
-
