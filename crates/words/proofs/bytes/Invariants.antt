@@ -1,6 +1,5 @@
 -- `words::bytes` is safe and ends: fewer bytes are left with each turn.
 use Prim.Native.Nat.{◌-◌}
-use borrow.Author.Rules.{rules}
 use lib.ListN.{length}
 use Rattle.words.proofs.bytes.Given as goal
 
