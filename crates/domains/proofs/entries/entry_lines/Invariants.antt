@@ -1,6 +1,5 @@
 -- `domains::entries::entry_lines` is safe and ends: one initiator fewer is left with each turn.
 use Prim.Native.Nat.{◌-◌}
-use borrow.Author.Rules.{rules}
 use Rattle.domains.proofs.entries.entry_lines.Given as goal
 
 abbrev pub invariant-loop-i : goal.invariant-loop-i

@@ -1,6 +1,5 @@
 -- `domains::entries::lay_entries` is safe and ends: one target fewer is left with each turn.
 use Prim.Native.Nat.{◌-◌}
-use borrow.Author.Rules.{rules}
 use Rattle.domains.proofs.entries.lay_entries.Given as goal
 
 abbrev pub invariant-loop-t : goal.invariant-loop-t
