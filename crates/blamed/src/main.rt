@@ -2,44 +2,44 @@
 // table, and a head that names no table.
 #![tactic(auto)]
 
-use libc::STDOUT_FILENO;
+use std::io;
 
-fn tell(recipe: &[u8], place: usize) {
+fn tell(rt: &impl Print, recipe: &[u8], place: usize) -> io::Result<()> {
     let mut words = [0u8; 64];
     let n = blames::field(recipe, place, &mut words, 0);
     if n == 0 {
-        return;
+        return Ok(());
     }
-    io::print_decimal(STDOUT_FILENO, place as u64);
-    io::write_all(STDOUT_FILENO, b": ");
-    prints::write_first(&words, n);
-    io::write_all(STDOUT_FILENO, b"\n");
+    print!(rt; "{place}: ")?;
+    prints::write_first(rt, &words, n)?;
+    rt.write_all(b"\n")
 }
 
-fn tell_all(title: &[u8], recipe: &[u8]) {
-    io::write_all(STDOUT_FILENO, title);
+fn tell_all(rt: &impl Print, title: &[u8], recipe: &[u8]) -> io::Result<()> {
+    rt.write_all(title)?;
     for place in 0..recipe.len() {
-        tell(recipe, place);
+        tell(rt, recipe, place)?;
     }
+    Ok(())
 }
 
-fn pptt() {
+fn pptt(rt: &impl Print) -> io::Result<()> {
     let mut r = [0u8; 68];
     r[0] = 1;
     r[28] = 18;
     r[50] = 16;
     r[63] = 17;
-    tell_all(b"PPTT\n", &r);
-    tell_all(b"PPTT, cut\n", &r[..35]);
+    tell_all(rt, b"PPTT\n", &r)?;
+    tell_all(rt, b"PPTT, cut\n", &r[..35])?;
     r[50] = 32;
-    tell_all(b"PPTT, a kind of SRAT\n", &r);
+    tell_all(rt, b"PPTT, a kind of SRAT\n", &r)?;
     r[1] = 4;
-    tell_all(b"no table\n", &r);
+    tell_all(rt, b"no table\n", &r)?;
     r[0] = 0;
-    tell_all(b"no head\n", &r);
+    tell_all(rt, b"no head\n", &r)
 }
 
-fn srat() {
+fn srat(rt: &impl Print) -> io::Result<()> {
     let mut r = [0u8; 93];
     r[0] = 1;
     r[1] = 1;
@@ -47,10 +47,10 @@ fn srat() {
     r[50] = 33;
     r[68] = 34;
     r[79] = 36;
-    tell_all(b"SRAT\n", &r);
+    tell_all(rt, b"SRAT\n", &r)
 }
 
-fn hmat() {
+fn hmat(rt: &impl Print) -> io::Result<()> {
     let mut r = [0u8; 125];
     r[0] = 1;
     r[1] = 2;
@@ -65,10 +65,10 @@ fn hmat() {
     r[104] = 56;
     r[111] = 57;
     r[118] = 58;
-    tell_all(b"HMAT\n", &r);
+    tell_all(rt, b"HMAT\n", &r)
 }
 
-fn cedt() {
+fn cedt(rt: &impl Print) -> io::Result<()> {
     let mut r = [0u8; 81];
     r[0] = 1;
     r[1] = 3;
@@ -77,12 +77,12 @@ fn cedt() {
     r[65] = 66;
     r[70] = 67;
     r[72] = 68;
-    tell_all(b"CEDT\n", &r);
+    tell_all(rt, b"CEDT\n", &r)
 }
 
-fn main() {
-    pptt();
-    srat();
-    hmat();
-    cedt();
+fn main(rt: HostRuntime) -> io::Result<()> {
+    pptt(&rt)?;
+    srat(&rt)?;
+    hmat(&rt)?;
+    cedt(&rt)
 }

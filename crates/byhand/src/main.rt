@@ -11,12 +11,12 @@ use hmat::{
     Associativity, CacheLevel, DataType, LocalityType, MemoryProximityDomain, MemorySideCache,
     MinTransferSize, SmbiosHandle, SystemLocality,
 };
-use libc::STDOUT_FILENO;
 use pptt::{
     AllocationType, CacheHandle, CacheNode, CacheNodeBuilder, CacheType, ProcessorHandle,
     ProcessorNode, Resource, WritePolicy,
 };
 use srat::{GenericInitiator, Handle, MemoryAffinity, RintcAffinity};
+use std::io;
 
 // Room for each of the tables.
 const ROOM: usize = 1024;
@@ -217,60 +217,58 @@ fn finish(table: Table, n: u32, out: &mut [u8]) {
     head.checksum(sum.value()).put(out, 0);
 }
 
-fn number(n: usize) {
-    io::write_all(STDOUT_FILENO, b" ");
-    io::print_decimal(STDOUT_FILENO, n as u64);
+fn number(rt: &impl Print, n: usize) -> io::Result<()> {
+    print!(rt; " {n}")
 }
 
 // A table, shown; the sum of its bytes; then its recipe, built again.
-fn trip(table: &[u8]) {
+fn trip(rt: &impl Print, table: &[u8]) -> io::Result<()> {
     let mut recipe = [0u8; ROOM];
     let mut again = [0u8; ROOM];
-    shows::show(table, false);
-    io::write_all(STDOUT_FILENO, b"sum");
-    number(Checksum::default().append(table).raw_value() as usize);
-    io::write_all(STDOUT_FILENO, b"\n");
+    shows::show(rt, table, false)?;
+    rt.write_all(b"sum")?;
+    number(rt, Checksum::default().append(table).raw_value() as usize)?;
+    rt.write_all(b"\n")?;
     let r = readout::read_out(table, &mut recipe);
     let b = build::build(field::part(&recipe, 0, r.place()), &mut again);
     if !frames::same(field::part(&again, 0, b.place()), table) {
-        io::write_all(STDOUT_FILENO, b"another table\n");
-        return;
+        return println!(rt; "another table");
     }
-    io::write_all(STDOUT_FILENO, b"read out and built again: the same\n");
+    println!(rt; "read out and built again: the same")
 }
 
 // What the types say of their records' lengths.
-fn lengths() {
-    io::write_all(STDOUT_FILENO, b"lengths");
-    number(ProcessorNode::get(&[0; 20], 0).len());
-    number(CacheNode::len());
-    number(MemoryAffinity::len());
-    number(GenericInitiator::len());
-    number(RintcAffinity::len());
-    number(MemoryProximityDomain::len());
-    number(CxlHostBridge::len());
-    number(TableHeader::len());
-    number(header::limit());
-    io::write_all(STDOUT_FILENO, b"\n");
+fn lengths(rt: &impl Print) -> io::Result<()> {
+    rt.write_all(b"lengths")?;
+    number(rt, ProcessorNode::get(&[0; 20], 0).len())?;
+    number(rt, CacheNode::len())?;
+    number(rt, MemoryAffinity::len())?;
+    number(rt, GenericInitiator::len())?;
+    number(rt, RintcAffinity::len())?;
+    number(rt, MemoryProximityDomain::len())?;
+    number(rt, CxlHostBridge::len())?;
+    number(rt, TableHeader::len())?;
+    number(rt, header::limit())?;
+    rt.write_all(b"\n")
 }
 
-fn main() {
+fn main(rt: HostRuntime) -> io::Result<()> {
     let mut pptt = [0u8; ROOM];
     let mut srat = [0u8; ROOM];
     let mut hmat = [0u8; ROOM];
     let mut cedt = [0u8; ROOM];
-    lengths();
+    lengths(&rt)?;
     caches(&mut pptt);
     processors(&mut pptt);
     finish(Table::Pptt, PPTT_LEN as u32, &mut pptt);
-    trip(field::part(&pptt, 0, PPTT_LEN));
+    trip(&rt, field::part(&pptt, 0, PPTT_LEN))?;
     affinities(&mut srat);
     finish(Table::Srat, SRAT_LEN as u32, &mut srat);
-    trip(field::part(&srat, 0, SRAT_LEN));
+    trip(&rt, field::part(&srat, 0, SRAT_LEN))?;
     localities(&mut hmat);
     finish(Table::Hmat, HMAT_LEN as u32, &mut hmat);
-    trip(field::part(&hmat, 0, HMAT_LEN));
+    trip(&rt, field::part(&hmat, 0, HMAT_LEN))?;
     links(&mut cedt);
     finish(Table::Cedt, CEDT_LEN as u32, &mut cedt);
-    trip(field::part(&cedt, 0, CEDT_LEN));
+    trip(&rt, field::part(&cedt, 0, CEDT_LEN))
 }

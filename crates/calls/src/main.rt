@@ -6,7 +6,8 @@ ghost use Rattle.format.specs.Bytes.{pick};
 ghost use Rattle.text.specs.Text.{laid};
 ghost use Rattle.answers.specs.Lines.{too_long, answer_to};
 
-use libc::STDIN_FILENO;
+use std::io;
+use std::io::{Input, Read};
 
 // Where the program stands: bytes of the line so far, and whether there were more than there is room for.
 #[derive(Clone, Copy)]
@@ -26,54 +27,63 @@ fn reply(p: Place, line: &[u8], given: &mut [u8], lent: &mut [u8], text: &mut [u
 }
 
 // The end of a line: its answer is written at once.
-fn finish(p: Place, line: &[u8], given: &mut [u8], lent: &mut [u8], text: &mut [u8]) -> Place {
+fn finish(
+    rt: &impl Print,
+    p: Place,
+    line: &[u8],
+    given: &mut [u8],
+    lent: &mut [u8],
+    text: &mut [u8],
+) -> io::Result<Place> {
     let n = reply(p, line, given, lent, text);
-    prints::write_first(text, n);
-    Place {
+    prints::write_first(rt, text, n)?;
+    Ok(Place {
         held: 0,
         long: false,
-    }
+    })
 }
 
 // One byte more.
 fn take(
+    rt: &impl Print,
     p: Place,
     b: u8,
     line: &mut [u8],
     given: &mut [u8],
     lent: &mut [u8],
     text: &mut [u8],
-) -> Place {
+) -> io::Result<Place> {
     let held = p.held;
     if b == b'\n' {
-        return finish(p, line, given, lent, text);
+        return finish(rt, p, line, given, lent, text);
     }
     if held < line.len() {
         line[held] = b;
-        return Place {
+        return Ok(Place {
             held: held + 1,
             long: p.long,
-        };
+        });
     }
-    Place { held, long: true }
+    Ok(Place { held, long: true })
 }
 
 // All bytes of a chunk.
 fn take_all(
+    rt: &impl Print,
     start: Place,
     chunk: &[u8],
     line: &mut [u8],
     given: &mut [u8],
     lent: &mut [u8],
     text: &mut [u8],
-) -> Place {
+) -> io::Result<Place> {
     let mut p = start;
     let mut i = 0;
     while i < chunk.len() {
-        p = take(p, chunk[i], line, given, lent, text);
+        p = take(rt, p, chunk[i], line, given, lent, text)?;
         i += 1;
     }
-    p
+    Ok(p)
 }
 
 // What a turn of the program leaves.
@@ -84,68 +94,88 @@ enum Turn {
 }
 
 // Reads once, and answers the lines that ended.
-fn listen(p: Place, line: &mut [u8], given: &mut [u8], lent: &mut [u8], text: &mut [u8]) -> Turn {
-    let mut chunk = io::large_buffer();
-    let n = io::count(libc::read(STDIN_FILENO, &mut chunk), &chunk);
+fn listen(
+    rt: &(impl Input + Print),
+    p: Place,
+    line: &mut [u8],
+    given: &mut [u8],
+    lent: &mut [u8],
+    text: &mut [u8],
+) -> io::Result<Turn> {
+    let mut chunk = [0u8; 65536];
+    let n = rt.reader().read(&mut chunk)?;
     if n == 0 {
-        return Turn::End(p);
+        return Ok(Turn::End(p));
     }
-    Turn::More(take_all(p, &chunk[..n], line, given, lent, text))
+    Ok(Turn::More(take_all(rt, p, &chunk[..n], line, given, lent, text)?))
 }
 
 // A last line may lack its newline.
-fn last(p: Place, line: &[u8], given: &mut [u8], lent: &mut [u8], text: &mut [u8]) {
+fn last(
+    rt: &impl Print,
+    p: Place,
+    line: &[u8],
+    given: &mut [u8],
+    lent: &mut [u8],
+    text: &mut [u8],
+) -> io::Result<()> {
     if 0 < p.held {
-        finish(p, line, given, lent, text);
+        finish(rt, p, line, given, lent, text)?;
     }
+    Ok(())
 }
 
 // Turn by turn. Nothing says that the input ends: the turns are counted, from a number that no run uses up.
-fn serve(line: &mut [u8], given: &mut [u8], lent: &mut [u8], text: &mut [u8]) {
+fn serve(
+    rt: &(impl Input + Print),
+    line: &mut [u8],
+    given: &mut [u8],
+    lent: &mut [u8],
+    text: &mut [u8],
+) -> io::Result<()> {
     let mut p = Place {
         held: 0,
         long: false,
     };
     let mut turns = u64::MAX;
     while 0 < turns {
-        match listen(p, line, given, lent, text) {
+        match listen(rt, p, line, given, lent, text)? {
             Turn::More(q) => p = q,
-            Turn::End(q) => {
-                last(q, line, given, lent, text);
-                return;
-            }
+            Turn::End(q) => return last(rt, q, line, given, lent, text),
         }
         turns -= 1;
     }
+    Ok(())
 }
 
 // Rooms as every stack has them. A line of text has room for the longest answer too.
-fn serve_small() {
+fn serve_small(rt: &(impl Input + Print)) -> io::Result<()> {
     let mut line = prints::line();
     let mut given = prints::room();
     let mut lent = prints::room();
     let mut text = prints::line();
-    serve(&mut line, &mut given, &mut lent, &mut text);
+    serve(rt, &mut line, &mut given, &mut lent, &mut text)
 }
 
 // Large rooms, apart from main's (see prints::never).
-fn serve_large(depth: u64) {
+fn serve_large(rt: &HostRuntime, depth: u64) -> io::Result<()> {
     let mut line = prints::large_line();
     let mut given = prints::large_data();
     let mut lent = prints::large_data();
     let mut text = prints::large_line();
-    serve(&mut line, &mut given, &mut lent, &mut text);
-    if prints::never() {
+    serve(rt, &mut line, &mut given, &mut lent, &mut text)?;
+    if prints::never(rt) {
         if 0 < depth {
-            serve_large(depth - 1);
+            serve_large(rt, depth - 1)?;
         }
     }
+    Ok(())
 }
 
-fn main() {
-    if prints::has_stack() {
-        serve_large(1);
+fn main(rt: HostRuntime) -> io::Result<()> {
+    if prints::has_stack(&rt) {
+        serve_large(&rt, 1)
     } else {
-        serve_small();
+        serve_small(&rt)
     }
 }

@@ -1,49 +1,63 @@
 // Lines that are laid column by column before they are written.
-ghost use Rattle.std.specs.Prelude.{◌≤◌};
+ghost use Rattle.std.specs.Prelude.{◌≤◌, IfOk};
+
+use std::io;
 
 // Makes room for some columns more: writes what is laid where there is none; where the next may stand.
-fn clear(line: &[u8; 4096], at: usize, width: usize) -> usize
+fn clear(rt: &impl Print, line: &[u8; 4096], at: usize, width: usize) -> io::Result<usize>
     requires { at ≤ 4096 }
-    ensures { result ≤ 4096 }
+    ensures { IfOk result (λ n. n ≤ 4096) }
 {
     if 4096 - at < width {
-        prints::write_first(line, at);
-        return 0;
+        prints::write_first(rt, line, at)?;
+        return Ok(0);
     }
-    at
+    Ok(at)
 }
 
 // Lays a word so that it ends a column; where the column ends, or the same place where it is narrower than the word.
-pub fn lay_right(line: &mut [u8; 4096], at: usize, width: usize, word: &[u8]) -> usize {
+pub fn lay_right(
+    rt: &impl Print,
+    line: &mut [u8; 4096],
+    at: usize,
+    width: usize,
+    word: &[u8],
+) -> io::Result<usize> {
     let n = word.len();
     if 4096 < at {
-        return at;
+        return Ok(at);
     }
     if 4096 < width {
-        return at;
+        return Ok(at);
     }
     if width < n {
-        return at;
+        return Ok(at);
     }
-    let at = clear(line, at, width);
+    let at = clear(rt, line, at, width)?;
     field::fill(line, at, width, 32);
     field::copy(line, at + (width - n), word);
-    at + width
+    Ok(at + width)
 }
 
 // The same for a number.
-pub fn lay_number(line: &mut [u8; 4096], at: usize, width: usize, v: u64) -> usize {
+pub fn lay_number(
+    rt: &impl Print,
+    line: &mut [u8; 4096],
+    at: usize,
+    width: usize,
+    v: u64,
+) -> io::Result<usize> {
     let mut digits = [0u8; 20];
-    let n = io::decimal(v, &mut digits);
-    lay_right(line, at, width, &digits[..n])
+    let n = text::decimal(&mut digits, 0, v);
+    lay_right(rt, line, at, width, field::part(&digits, 0, n))
 }
 
 // Writes what is laid, and ends the line.
-pub fn write_line(line: &mut [u8; 4096], at: usize) {
+pub fn write_line(rt: &impl Print, line: &mut [u8; 4096], at: usize) -> io::Result<()> {
     if 4096 < at {
-        return;
+        return Ok(());
     }
-    let at = clear(line, at, 1);
+    let at = clear(rt, line, at, 1)?;
     field::put_u8(line, at, 10);
-    prints::write_first(line, at + 1);
+    prints::write_first(rt, line, at + 1)
 }

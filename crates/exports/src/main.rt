@@ -2,8 +2,8 @@
 #![tactic(auto)]
 
 use header::{Table, TableHeader};
-use libc::STDOUT_FILENO;
 use pptt::{CacheHandle, CacheNode, CacheNodeBuilder, ProcessorHandle, ProcessorNode, Resource};
+use std::io;
 
 // Every row.
 const MASK: u32 = 255;
@@ -30,75 +30,74 @@ fn put_recipe(out: &mut [u8]) {
     resource.put_body(out, RESOURCE);
 }
 
-fn number(n: u64) {
-    io::write_all(STDOUT_FILENO, b" ");
-    io::print_decimal(STDOUT_FILENO, n);
+fn number(rt: &impl Print, n: u64) -> io::Result<()> {
+    print!(rt; " {n}")
 }
 
 // A line: the function, what it answered, and the place.
-fn told(name: &[u8], answer: u32, place: usize) {
-    io::write_all(STDOUT_FILENO, name);
-    number(answer as u64);
-    number(place as u64);
-    io::write_all(STDOUT_FILENO, b"\n");
+fn told(rt: &impl Print, name: &[u8], answer: u32, place: usize) -> io::Result<()> {
+    rt.write_all(name)?;
+    number(rt, answer as u64)?;
+    number(rt, place as u64)?;
+    rt.write_all(b"\n")
 }
 
 // A line: the first ten numbers of a record.
-fn listed(name: &[u8], numbers: [u64; 10]) {
-    io::write_all(STDOUT_FILENO, name);
-    number(numbers[0]);
-    number(numbers[1]);
-    number(numbers[2]);
-    number(numbers[3]);
-    number(numbers[4]);
-    number(numbers[5]);
-    number(numbers[6]);
-    number(numbers[7]);
-    number(numbers[8]);
-    number(numbers[9]);
-    io::write_all(STDOUT_FILENO, b"\n");
+fn listed(rt: &impl Print, name: &[u8], numbers: [u64; 10]) -> io::Result<()> {
+    rt.write_all(name)?;
+    number(rt, numbers[0])?;
+    number(rt, numbers[1])?;
+    number(rt, numbers[2])?;
+    number(rt, numbers[3])?;
+    number(rt, numbers[4])?;
+    number(rt, numbers[5])?;
+    number(rt, numbers[6])?;
+    number(rt, numbers[7])?;
+    number(rt, numbers[8])?;
+    number(rt, numbers[9])?;
+    rt.write_all(b"\n")
 }
 
 // The calls on a recipe, of which the last writes the table.
-fn of_recipe(recipe: &[u8], table: &mut [u8]) {
+fn of_recipe(rt: &impl Print, recipe: &[u8], table: &mut [u8]) -> io::Result<()> {
     let mut place: usize = 0;
     let checked = acpi::acpi_check(recipe, &mut place);
-    told(b"check", checked, place);
+    told(rt, b"check", checked, place)?;
     let built = acpi::acpi_build(recipe, table, &mut place);
-    told(b"build", built, place);
+    told(rt, b"build", built, place)
 }
 
 // A line: the sum of a table's bytes, and what passes 64 bits.
-fn added(table: &[u8]) {
+fn added(rt: &impl Print, table: &[u8]) -> io::Result<()> {
     let mut high: u64 = 1;
     let sum = acpi::acpi_sum(table, &mut high);
-    io::write_all(STDOUT_FILENO, b"sum");
-    number(sum);
-    number(high);
-    io::write_all(STDOUT_FILENO, b"\n");
+    rt.write_all(b"sum")?;
+    number(rt, sum)?;
+    number(rt, high)?;
+    rt.write_all(b"\n")
 }
 
 // The calls on a table, of which the last writes the recipe.
-fn of_table(table: &[u8], recipe: &mut [u8]) {
+fn of_table(rt: &impl Print, table: &[u8], recipe: &mut [u8]) -> io::Result<()> {
     let mut place: usize = 0;
     let mut record = [0u64; 10];
     let mut first = [0u64; 10];
     let accepted = acpi::acpi_accept(table, MASK, &mut place);
-    told(b"accept", accepted, place);
+    told(rt, b"accept", accepted, place)?;
     let found = acpi::acpi_read(table, MASK, 1, &mut record, &mut place);
-    told(b"read", found, place);
-    listed(b"record", record);
+    told(rt, b"read", found, place)?;
+    listed(rt, b"record", record)?;
     acpi::acpi_record_at(table, MASK, acpi::acpi_first_place(table), &mut first);
-    listed(b"first", first);
-    added(table);
+    listed(rt, b"first", first)?;
+    added(rt, table)?;
     let out = acpi::acpi_read_out(table, recipe, &mut place);
-    told(b"read_out", out, place);
+    told(rt, b"read_out", out, place)
 }
 
-fn main() {
+fn main(rt: HostRuntime) -> io::Result<()> {
     let mut recipe = [0u8; RESOURCE + 1 + Resource::BODY];
     let mut table = [0u8; TABLE];
     put_recipe(&mut recipe);
-    of_recipe(&recipe, &mut table);
-    of_table(&table, &mut recipe);
+    of_recipe(&rt, &recipe, &mut table)?;
+    of_table(&rt, &table, &mut recipe)
 }

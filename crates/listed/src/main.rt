@@ -1,36 +1,33 @@
 // Prints the lines of each table that its arguments name, under the name: stored tables against stored lines.
 #![tactic(auto)]
 
-use libc::STDOUT_FILENO;
+use std::io;
 
-fn show(path: &[u8]) {
-    io::write_all(STDOUT_FILENO, b"== ");
-    io::write_all(STDOUT_FILENO, path);
-    io::write_all(STDOUT_FILENO, b"\n");
-    let fd = os::open_read(path);
-    if fd < 0 {
-        os::fail(path);
-        return;
-    }
-    let mut space = io::large_buffer();
-    let n = io::read_full(fd, &mut space);
-    libc::close(fd);
+fn show(rt: &HostRuntime, path: &[u8]) -> io::Result<()> {
+    rt.write_all(b"== ")?;
+    rt.write_all(path)?;
+    rt.write_all(b"\n")?;
+    let mut space = [0u8; 65536];
+    let Some(n) = prints::read_named(rt, path, &mut space)? else {
+        return Ok(());
+    };
     let mut text = prints::room();
     let m = lists::lines(&space[..n], &mut text);
-    prints::write_first(&text, m);
+    prints::write_first(rt, &text, m)
 }
 
-fn argument(i: usize) {
-    let mut path = io::buffer();
-    let n = os::arg(i, &mut path);
-    show(&path[..n]);
+fn argument(rt: &HostRuntime, i: usize) -> io::Result<()> {
+    let mut path = [0u8; 4096];
+    let n = prints::argument(rt, i, &mut path);
+    show(rt, &path[..n])
 }
 
-fn main() {
-    let count = os::arg_count();
-    let mut i = 1;
-    while i < count {
-        argument(i);
-        i += 1;
+fn main(rt: HostRuntime) -> io::Result<()> {
+    for i in 1..usize::MAX {
+        if !prints::has_argument(&rt, i) {
+            break;
+        }
+        argument(&rt, i)?;
     }
+    Ok(())
 }

@@ -1,10 +1,12 @@
 // Prints the lines of the table on standard input.
 #![tactic(auto)]
 
-fn main() {
-    let mut space = io::large_buffer();
-    let n = io::read_full(0, &mut space);
+use std::io;
+
+fn main(rt: HostRuntime) -> io::Result<()> {
+    let mut space = [0u8; 65536];
+    let n = prints::read_input(&rt, &mut space)?;
     let mut text = prints::room();
     let m = lists::lines(&space[..n], &mut text);
-    prints::write_first(&text, m);
+    prints::write_first(&rt, &text, m)
 }

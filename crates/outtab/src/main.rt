@@ -3,56 +3,56 @@
 // than 67,174,400 bytes, and its recipe may have 134,217,728.
 #![tactic(auto)]
 
-use libc::{STDERR_FILENO, STDIN_FILENO};
 use readout::ReadOut;
+use std::io;
 
-fn show(answer: ReadOut, recipe: &[u8]) {
+fn show(rt: &(impl Print + Eprint), answer: ReadOut, recipe: &[u8]) -> io::Result<()> {
     if let ReadOut::Written(n) = answer {
-        prints::write_first(recipe, n);
+        prints::write_first(rt, recipe, n)
     } else {
-        prints::refuse(answer.number() as u64, answer.place() as u64);
+        prints::refuse(rt, answer.number() as u64, answer.place() as u64)
     }
 }
 
 // A long table, of which the first bytes are read already, or one of a long recipe: in large rooms, apart from main's (see prints::never).
-fn read_out_large(first: &[u8], depth: u64) {
+fn read_out_large(rt: &HostRuntime, first: &[u8], depth: u64) -> io::Result<()> {
     let mut table = prints::large_table();
-    let n = prints::read_on(first, &mut table);
+    let n = prints::read_on(rt, first, &mut table)?;
     if n < table.len() {
         let mut recipe = prints::large_recipe();
         let answer = readout::read_out(field::part(&table, 0, n), &mut recipe);
-        show(answer, &recipe);
+        show(rt, answer, &recipe)?;
     } else {
-        io::write_all(STDERR_FILENO, b"the table has 67174400 bytes or more\n");
+        eprintln!(rt; "the table has 67174400 bytes or more")?;
     }
-    if prints::never() {
+    if prints::never(rt) {
         if 0 < depth {
-            read_out_large(first, depth - 1);
+            read_out_large(rt, first, depth - 1)?;
         }
     }
+    Ok(())
 }
 
 // A table that is read to its end.
-fn read_out(table: &[u8]) {
+fn read_out(rt: &HostRuntime, table: &[u8]) -> io::Result<()> {
     let mut recipe = prints::room();
     let answer = readout::read_out(table, &mut recipe);
     if let ReadOut::Room(_) = answer {
-        if prints::has_stack() {
-            read_out_large(table, 1);
-            return;
+        if prints::has_stack(rt) {
+            return read_out_large(rt, table, 1);
         }
     }
-    show(answer, &recipe);
+    show(rt, answer, &recipe)
 }
 
-fn main() {
+fn main(rt: HostRuntime) -> io::Result<()> {
     let mut table = prints::room();
-    let n = io::read_full(STDIN_FILENO, &mut table);
+    let n = prints::read_input(&rt, &mut table)?;
     if n < table.len() {
-        read_out(&table[..n]);
-    } else if prints::has_stack() {
-        read_out_large(&table, 1);
+        read_out(&rt, &table[..n])
+    } else if prints::has_stack(&rt) {
+        read_out_large(&rt, &table, 1)
     } else {
-        io::write_all(STDERR_FILENO, b"the table has 1114112 bytes or more\n");
+        eprintln!(rt; "the table has 1114112 bytes or more")
     }
 }

@@ -1,13 +1,18 @@
-// What the programs lend and write: room for a table, a recipe or a line of text, bytes to standard output, a refusal to standard error.
+// What the programs lend, read and write: room for a table, a recipe or a line of text, standard input into such a room, bytes to standard
+// output, a refusal to standard error.
 // All of it is on the stack. Every stack has room for what `room` and `line` give; what has `large` in its name is made only where it is
 // needed and `has_stack` says that there is room for it.
 #![tactic(auto)]
 
 mod stack;
 
-ghost use Rattle.std.specs.Prelude.{◌≡◌, length, replicate};
+ghost use Rattle.std.specs.Prelude.{◌≡◌, ◌≤◌, length, replicate, IfOk, IfSome};
 
-use libc::{STDERR_FILENO, STDIN_FILENO, STDOUT_FILENO};
+use std::env::{Env, FillError};
+use std::fs::File;
+use std::io::{Input, Read};
+use std::rt::Files;
+use std::{fs, io, str};
 
 // 256 MiB: the rooms of a program, small and large, which have 208,404,736 bytes at most, with what its calls and its environment take.
 const LARGE_STACK: u64 = 268435456;
@@ -61,46 +66,111 @@ pub fn large_line() -> [u8; 67240000]
 }
 
 // Whether the stack may grow so far that large rooms fit; no where the system does not tell.
-pub fn has_stack() -> bool {
-    let fd = os::open_read(b"/proc/self/limits");
-    if fd < 0 {
-        return false;
+pub fn has_stack(rt: &impl Files) -> bool {
+    let mut limits = [0u8; 4096];
+    match read_limits(rt, &mut limits) {
+        Ok(n) => stack::allows(field::part(&limits, 0, n)),
+        Err(_) => false,
     }
-    let mut limits = io::buffer();
-    let n = io::read_full(fd, &mut limits);
-    libc::close(fd);
-    stack::allows(&limits[..n])
+}
+
+// The text in which the system tells a process its limits, as far as there is room: how many bytes it has then.
+fn read_limits(rt: &impl Files, limits: &mut [u8]) -> io::Result<usize> {
+    let mut file = fs::open(rt, "/proc/self/limits")?;
+    read_full(&mut file, limits)
 }
 
 // No: a program is started with a word at least, its own name, which the compiler does not know. A function that makes large rooms calls
 // itself where this is so. For what calls itself is never made a part of its caller; else the rooms would be in main's frame, for which a
 // small stack has no room, whether they are made or not.
-pub fn never() -> bool {
-    os::arg_count() == 0
+pub fn never(rt: &impl Env) -> bool {
+    !has_argument(rt, 0)
+}
+
+// Bytes from a reader, to its end or as far as there is room: how many there are then. A read that fails ends it, and its error is the
+// answer; the room has then what was read before.
+pub fn read_full(from: &mut impl Read, room: &mut [u8]) -> io::Result<usize>
+    ensures { IfOk result (λ n. n ≤ length room.new) }
+{
+    let mut done = 0;
+    while done < room.len() {
+        let n = from.read(&mut room[done..])?;
+        if n == 0 {
+            break;
+        }
+        done += n;
+    }
+    Ok(done)
+}
+
+// The same of standard input.
+pub fn read_input(rt: &impl Input, room: &mut [u8]) -> io::Result<usize>
+    ensures { IfOk result (λ n. n ≤ length room.new) }
+{
+    read_full(&mut rt.reader(), room)
+}
+
+// What the file of a name has, as far as there is room: how many bytes. Where it can't be opened, a line on standard error says why, and
+// there are none.
+pub fn read_named(rt: &HostRuntime, path: &[u8], room: &mut [u8]) -> io::Result<Option<usize>>
+    ensures { IfOk result (λ found. IfSome found (λ n. n ≤ length room.new)) }
+{
+    match open(rt, path) {
+        Ok(mut file) => {
+            let n = read_full(&mut file, room)?;
+            Ok(Some(n))
+        }
+        Err(e) => {
+            rt.stderr().write_all(path)?;
+            eprintln!(rt; ": {e}")?;
+            Ok(None)
+        }
+    }
+}
+
+// The file of a name, which has to be text.
+fn open(rt: &HostRuntime, path: &[u8]) -> io::Result<File> {
+    match str::from_utf8(path) {
+        Ok(name) => fs::open(rt, name),
+        Err(_) => Err(io::Error::from(io::ErrorKind::InvalidFilename)),
+    }
+}
+
+// The i-th word that a program was started with: how many bytes it has. One that is missing or longer than the room is empty.
+pub fn argument(rt: &impl Env, i: usize, room: &mut [u8]) -> usize
+    ensures { result ≤ length room.new }
+{
+    match rt.arg(i, room) {
+        Ok(n) => n,
+        Err(_) => 0,
+    }
+}
+
+// Whether a program was started with an i-th word.
+pub fn has_argument(rt: &impl Env, i: usize) -> bool {
+    let mut word = [0u8; 1];
+    !matches!(rt.arg(i, &mut word), Err(FillError::NotPresent))
 }
 
 // Bytes that were read already, and behind them the rest of standard input, as far as there is room: how many there are then.
-pub fn read_on(first: &[u8], room: &mut [u8]) -> usize {
+pub fn read_on(rt: &impl Input, first: &[u8], room: &mut [u8]) -> io::Result<usize> {
     let n = first.len();
     if room.len() < n {
-        return 0;
+        return Ok(0);
     }
     field::copy(room, 0, first);
-    n + io::read_full(STDIN_FILENO, &mut room[n..])
+    Ok(n + read_input(rt, &mut room[n..])?)
 }
 
 // The first n bytes of a buffer.
-pub fn write_first(bytes: &[u8], n: usize) {
+pub fn write_first(rt: &impl Print, bytes: &[u8], n: usize) -> io::Result<()> {
     if n <= bytes.len() {
-        io::write_all(STDOUT_FILENO, &bytes[..n]);
+        rt.write_all(&bytes[..n])?;
     }
+    Ok(())
 }
 
 // One line: the refusal's number and its place.
-pub fn refuse(number: u64, place: u64) {
-    io::write_all(STDERR_FILENO, b"refused ");
-    io::print_decimal(STDERR_FILENO, number);
-    io::write_all(STDERR_FILENO, b" ");
-    io::print_decimal(STDERR_FILENO, place);
-    io::write_all(STDERR_FILENO, b"\n");
+pub fn refuse(rt: &impl Eprint, number: u64, place: u64) -> io::Result<()> {
+    eprintln!(rt; "refused {number} {place}")
 }

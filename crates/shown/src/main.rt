@@ -2,47 +2,43 @@
 // ones, and matrices of which only the ends are shown.
 #![tactic(auto)]
 
-use libc::STDOUT_FILENO;
+use std::io;
 
 // A table under its name.
-fn show(path: &[u8]) {
-    io::write_all(STDOUT_FILENO, b"== ");
-    io::write_all(STDOUT_FILENO, path);
-    io::write_all(STDOUT_FILENO, b"\n");
-    let fd = os::open_read(path);
-    if fd < 0 {
-        os::fail(path);
-        return;
-    }
+fn show(rt: &HostRuntime, path: &[u8]) -> io::Result<()> {
+    rt.write_all(b"== ")?;
+    rt.write_all(path)?;
+    rt.write_all(b"\n")?;
     let mut space = prints::room();
-    let n = io::read_full(fd, &mut space);
-    libc::close(fd);
-    shows::show(&space[..n], false);
+    let Some(n) = prints::read_named(rt, path, &mut space)? else {
+        return Ok(());
+    };
+    shows::show(rt, &space[..n], false)
 }
 
 // The table that an argument names.
-fn argument(i: usize) {
-    let mut path = io::buffer();
-    let n = os::arg(i, &mut path);
-    show(&path[..n]);
+fn argument(rt: &HostRuntime, i: usize) -> io::Result<()> {
+    let mut path = [0u8; 4096];
+    let n = prints::argument(rt, i, &mut path);
+    show(rt, &path[..n])
 }
 
 // As many as crates/shown/args has lines.
-fn main() {
-    argument(1);
-    argument(2);
-    argument(3);
-    argument(4);
-    argument(5);
-    argument(6);
-    argument(7);
-    argument(8);
-    argument(9);
-    argument(10);
-    argument(11);
-    argument(12);
-    argument(13);
-    argument(14);
-    argument(15);
-    argument(16);
+fn main(rt: HostRuntime) -> io::Result<()> {
+    argument(&rt, 1)?;
+    argument(&rt, 2)?;
+    argument(&rt, 3)?;
+    argument(&rt, 4)?;
+    argument(&rt, 5)?;
+    argument(&rt, 6)?;
+    argument(&rt, 7)?;
+    argument(&rt, 8)?;
+    argument(&rt, 9)?;
+    argument(&rt, 10)?;
+    argument(&rt, 11)?;
+    argument(&rt, 12)?;
+    argument(&rt, 13)?;
+    argument(&rt, 14)?;
+    argument(&rt, 15)?;
+    argument(&rt, 16)
 }

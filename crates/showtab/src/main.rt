@@ -3,38 +3,39 @@
 // needs them is refused for its length.
 #![tactic(auto)]
 
-use libc::STDIN_FILENO;
+use std::env::Env;
+use std::io;
 
 // Whether the first argument asks for all.
-fn asks_all() -> bool {
+fn asks_all(rt: &impl Env) -> bool {
     let mut word = [0u8; 6];
-    if os::arg(1, &mut word) != 5 {
+    if prints::argument(rt, 1, &mut word) != 5 {
         return false;
     }
     frames::same(field::part(&word, 0, 5), b"--all")
 }
 
 // A long table, of which the first bytes are read already: in a large room, apart from main's (see prints::never).
-fn show_large(first: &[u8], all: bool, depth: u64) {
+fn show_large(rt: &HostRuntime, first: &[u8], all: bool, depth: u64) -> io::Result<()> {
     let mut table = prints::large_table();
-    let n = prints::read_on(first, &mut table);
-    shows::show(field::part(&table, 0, n), all);
-    if prints::never() {
+    let n = prints::read_on(rt, first, &mut table)?;
+    shows::show(rt, field::part(&table, 0, n), all)?;
+    if prints::never(rt) {
         if 0 < depth {
-            show_large(first, all, depth - 1);
+            show_large(rt, first, all, depth - 1)?;
         }
     }
+    Ok(())
 }
 
-fn main() {
-    let all = asks_all();
+fn main(rt: HostRuntime) -> io::Result<()> {
+    let all = asks_all(&rt);
     let mut table = prints::room();
-    let n = io::read_full(STDIN_FILENO, &mut table);
+    let n = prints::read_input(&rt, &mut table)?;
     if table.len() <= n {
-        if prints::has_stack() {
-            show_large(&table, all, 1);
-            return;
+        if prints::has_stack(&rt) {
+            return show_large(&rt, &table, all, 1);
         }
     }
-    shows::show(&table[..n], all);
+    shows::show(&rt, &table[..n], all)
 }

@@ -2,38 +2,39 @@
 // There have to be fewer than 1,114,112 bytes, or with 256 MiB of stack fewer than 67,174,400.
 #![tactic(auto)]
 
-use libc::{STDERR_FILENO, STDIN_FILENO};
+use std::io;
 
-fn show(table: &[u8]) {
+fn show(rt: &impl Print, table: &[u8]) -> io::Result<()> {
     let mut text = [0u8; 128];
     let m = sums::lines(table, &mut text);
-    prints::write_first(&text, m);
+    prints::write_first(rt, &text, m)
 }
 
 // A long table, of which the first bytes are read already: in a large room, apart from main's (see prints::never).
-fn show_large(first: &[u8], depth: u64) {
+fn show_large(rt: &HostRuntime, first: &[u8], depth: u64) -> io::Result<()> {
     let mut table = prints::large_table();
-    let n = prints::read_on(first, &mut table);
+    let n = prints::read_on(rt, first, &mut table)?;
     if n < table.len() {
-        show(field::part(&table, 0, n));
+        show(rt, field::part(&table, 0, n))?;
     } else {
-        io::write_all(STDERR_FILENO, b"the table has 67174400 bytes or more\n");
+        eprintln!(rt; "the table has 67174400 bytes or more")?;
     }
-    if prints::never() {
+    if prints::never(rt) {
         if 0 < depth {
-            show_large(first, depth - 1);
+            show_large(rt, first, depth - 1)?;
         }
     }
+    Ok(())
 }
 
-fn main() {
+fn main(rt: HostRuntime) -> io::Result<()> {
     let mut table = prints::room();
-    let n = io::read_full(STDIN_FILENO, &mut table);
+    let n = prints::read_input(&rt, &mut table)?;
     if n < table.len() {
-        show(&table[..n]);
-    } else if prints::has_stack() {
-        show_large(&table, 1);
+        show(&rt, &table[..n])
+    } else if prints::has_stack(&rt) {
+        show_large(&rt, &table, 1)
     } else {
-        io::write_all(STDERR_FILENO, b"the table has 1114112 bytes or more\n");
+        eprintln!(rt; "the table has 1114112 bytes or more")
     }
 }

@@ -1,17 +1,22 @@
--- Two outcomes of `item` or `bit` that meet its contract show the same: the contract says the answer. What is printed no contract says.
+-- Two outcomes of `item` or `bit` that meet its contract show the same, where all could be written: the contract says the answer then. What is
+-- printed no contract says.
+use denote.RattleType.{RattleType}
+use denote.Param.Laws.{Laws}
+use Rattle.std.proofs.Common.{Ok}
 use Rattle.laws.specs.Unique.{Fixes}
 use Rattle.laws.proofs.Sole.{sole}
 use Rattle.words.proofs.item.Reads as item
 use Rattle.words.proofs.bit.Reads as bit
 
--- for each public function that answers: what its contract fixes of the result `x` and of the parameters afterwards, `p`
-pub record Unique : Type 0 where
-  item : Fixes item.Learnt (λ k x p. x)
-  bit : Fixes bit.Learnt (λ k x p. x)
+-- for each public function that answers: what its contract, met by an `Ok`, fixes of the value `x` and of the parameters afterwards, `p`,
+-- whatever prints
+pub record Unique : Type 2 where
+  item : (R : RattleType) (laws : Laws R) (ghosts : _) (methods : _) → Fixes (λ k a x p. item.Learnt R laws ghosts methods k a (Ok x) p) (λ k x p. x)
+  bit : (R : RattleType) (laws : Laws R) (ghosts : _) (methods : _) → Fixes (λ k a x p. bit.Learnt R laws ghosts methods k a (Ok x) p) (λ k x p. x)
 
 pub unique : Unique
 unique =
     record {
-      item = λ k a x y p q. sole;
-      bit = λ k a x y p q. sole;
+      item = λ R laws ghosts methods k a x y p q. sole;
+      bit = λ R laws ghosts methods k a x y p q. sole;
     }

@@ -6,7 +6,7 @@ use lib.ListN.{length}
 use Rattle.calls.proofs.take_all.Given as goal
 
 abbrev pub invariant-loop-i : goal.invariant-loop-i
-invariant-loop-i l = (length l.line ≡ length l.initial.line) × (length l.given ≡ length l.initial.given) × (length l.lent ≡ length l.initial.lent) × (length l.text ≡ length l.initial.text)
+invariant-loop-i g l = (length l.line ≡ length l.initial.line) × (length l.given ≡ length l.initial.given) × (length l.lent ≡ length l.initial.lent) × (length l.text ≡ length l.initial.text)
 
 abbrev pub decreases-loop-i : goal.decreases-loop-i
-decreases-loop-i l = length l.chunk - l.i
+decreases-loop-i g l = length l.chunk - l.i

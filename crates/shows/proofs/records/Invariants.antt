@@ -4,7 +4,7 @@ use borrow.Author.Rules.{rules}
 use Rattle.shows.proofs.records.Given as goal
 
 abbrev pub invariant-loop-i : goal.invariant-loop-i
-invariant-loop-i l = Unit
+invariant-loop-i g l = Unit
 
 abbrev pub decreases-loop-i : goal.decreases-loop-i
-decreases-loop-i l = l.count - l.i
+decreases-loop-i g l = l.count - l.i

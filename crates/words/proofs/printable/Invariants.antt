@@ -1,6 +1,5 @@
 -- `words::printable` is safe and ends: one byte fewer is left with each turn.
 use Prim.Native.Nat.{◌-◌}
-use borrow.Author.Rules.{rules}
 use Rattle.words.proofs.printable.Given as goal
 
 abbrev pub invariant-loop-i : goal.invariant-loop-i

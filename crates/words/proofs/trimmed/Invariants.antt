@@ -1,5 +1,4 @@
 -- `words::trimmed` is safe and ends: one byte fewer is left with each turn.
-use borrow.Author.Rules.{rules}
 use Rattle.words.proofs.trimmed.Given as goal
 
 abbrev pub invariant-loop-k : goal.invariant-loop-k

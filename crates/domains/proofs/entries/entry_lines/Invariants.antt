@@ -1,10 +1,9 @@
 -- `domains::entries::entry_lines` is safe and ends: one initiator fewer is left with each turn.
 use Prim.Native.Nat.{◌-◌}
-use borrow.Author.Rules.{rules}
 use Rattle.domains.proofs.entries.entry_lines.Given as goal
 
 abbrev pub invariant-loop-i : goal.invariant-loop-i
-invariant-loop-i l = Unit
+invariant-loop-i g l = Unit
 
 abbrev pub decreases-loop-i : goal.decreases-loop-i
-decreases-loop-i l = l.to - l.i
+decreases-loop-i g l = l.to - l.i

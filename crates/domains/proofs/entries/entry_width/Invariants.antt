@@ -1,6 +1,5 @@
 -- `domains::entries::entry_width` is safe and ends: one target fewer is left with each turn.
 use Prim.Native.Nat.{◌-◌}
-use borrow.Author.Rules.{rules}
 use Rattle.domains.proofs.entries.entry_width.Given as goal
 
 abbrev pub invariant-loop-t : goal.invariant-loop-t

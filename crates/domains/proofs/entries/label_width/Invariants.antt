@@ -1,6 +1,5 @@
 -- `domains::entries::label_width` is safe and ends: one initiator fewer is left with each turn.
 use Prim.Native.Nat.{◌-◌}
-use borrow.Author.Rules.{rules}
 use Rattle.domains.proofs.entries.label_width.Given as goal
 
 abbrev pub invariant-loop-i : goal.invariant-loop-i

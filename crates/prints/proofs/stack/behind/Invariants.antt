@@ -1,6 +1,5 @@
 -- `prints::stack::behind` is safe and ends: one byte fewer is left with each turn.
 use Prim.Native.Nat.{◌-◌}
-use borrow.Author.Rules.{rules}
 use lib.ListN.{length}
 use Rattle.prints.proofs.stack.behind.Given as goal
 

@@ -1,6 +1,5 @@
 -- `prints::stack::large` is safe and ends: one byte fewer is left with each turn, and the number has not reached the bound.
 use Prim.Native.Nat.{◌-◌, ◌<◌}
-use borrow.Author.Rules.{rules}
 use lib.ListN.{length}
 use Rattle.prints.proofs.stack.large.Given as goal
 

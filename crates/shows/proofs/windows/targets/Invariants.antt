@@ -3,4 +3,8 @@ use Prim.Native.Nat.{◌-◌}
 use borrow.Author.Rules.{rules}
 use Rattle.shows.proofs.windows.targets.Given as goal
 
+abbrev pub invariant-loop-i : goal.invariant-loop-i
+invariant-loop-i g l = Unit
 
+abbrev pub decreases-loop-i : goal.decreases-loop-i
+decreases-loop-i g l = l.count - l.i

@@ -1,0 +1,9 @@
+-- `prints::read_full` is safe and ends: each read that isn't the last takes a byte at least.
+use Rattle.std.proofs.Common.{length, ◌-◌, ◌≤◌}
+use Rattle.prints.proofs.read_full.Given as goal
+
+abbrev pub invariant-loop-done : goal.invariant-loop-done
+invariant-loop-done g l = l.done ≤ length l.room
+
+abbrev pub decreases-loop-done : goal.decreases-loop-done
+decreases-loop-done g l = length l.room - l.done
