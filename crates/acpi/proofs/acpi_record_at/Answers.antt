@@ -1,7 +1,6 @@
 -- `acpi_record_at` meets its contract: the record and the part at the place, as numbers.
 use mathlib.Core.Path.{◌≡◌, ap}
 use native.Mathlib.Omega.{arith}
-use borrow.Author.Rules.{rules}
 use lib.ListN.{length}
 use Rattle.read.specs.Places.{seen_at}
 use Rattle.read.proofs.Listing.{shown-next, body-room}

@@ -1,5 +1,4 @@
 -- `put_record` meets its contract: six numbers, and the fields behind them.
-use borrow.Author.Rules.{rules}
 use Rattle.acpi.proofs.Records.{record-laid}
 use Rattle.acpi.proofs.put_record.Goals as goal
 

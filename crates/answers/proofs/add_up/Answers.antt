@@ -1,6 +1,5 @@
 -- `add_up` meets its contract: each way that the word can be read is the definition's.
 use mathlib.Core.Path.{sym, ◌∙◌}
-use borrow.Author.Rules.{rules}
 use Rattle.answers.specs.Lines.{adding}
 use Rattle.answers.proofs.Laws.{unhexed}
 use Rattle.answers.proofs.add_up.Goals as goal

@@ -1,7 +1,6 @@
 -- `answer` meets its contract: each call is the definition's.
 use Rattle.answers.specs.Lines.{answer_to}
 use Rattle.talk.specs.Words.{call_in}
-use borrow.Author.Rules.{rules}
 use mathlib.Core.Path.{sym, ap, ◌∙◌}
 use Rattle.answers.proofs.answer.Goals as goal
 

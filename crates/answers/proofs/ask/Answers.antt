@@ -2,7 +2,6 @@
 use Rattle.answers.proofs.Laws.{number-low, unhexed}
 use Rattle.answers.specs.Lines.{asking}
 use Rattle.talk.specs.Numbers.{number_in}
-use borrow.Author.Rules.{rules}
 use mathlib.Core.Path.{sym, ap, ◌∙◌}
 use native.Mathlib.Omega.{arith}
 use Rattle.answers.proofs.ask.Goals as goal

@@ -1,7 +1,6 @@
 -- `carry_out` meets its contract: what is told of the answer is the line of the call on a filled buffer.
 use Rattle.answers.proofs.Laws.{builds, reads-out}
 use Rattle.text.specs.Text.{laid}
-use borrow.Author.Rules.{rules}
 use mathlib.Core.Path.{ap, ◌∙◌}
 use Rattle.answers.proofs.carry_out.Goals as goal
 

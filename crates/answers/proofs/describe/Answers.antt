@@ -2,7 +2,6 @@
 use Rattle.answers.proofs.Laws.{content-as}
 use Rattle.read.specs.Answers.{row_in, fields_in}
 use Rattle.text.proofs.Laws.{laid_next}
-use borrow.Author.Rules.{rules}
 use borrow.Author.Tests.{eq-eqb, ne_eqb}
 use Rattle.answers.proofs.describe.Goals as goal
 

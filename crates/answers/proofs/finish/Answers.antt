@@ -1,7 +1,6 @@
 -- `finish` meets its contract: its words one behind the other.
 use Rattle.answers.specs.Lines.{ending}
 use Rattle.text.proofs.Laws.{laid_next}
-use borrow.Author.Rules.{rules}
 use Rattle.answers.proofs.finish.Goals as goal
 
 pub returns : goal.returns

@@ -1,5 +1,4 @@
 -- `last_word` meets its contract: each word is its own.
-use borrow.Author.Rules.{rules}
 use Rattle.answers.proofs.last_word.Goals as goal
 
 pub returns-then-kept : goal.returns-then-kept

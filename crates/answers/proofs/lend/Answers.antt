@@ -1,6 +1,5 @@
 -- `lend` meets its contract: the part that it lends has as many bytes as are asked for, or all.
 use Prim.Native.Nat.{min}
-use borrow.Author.Rules.{rules}
 use lib.ListN.{length, take}
 use lib.Seq.{length-take-le}
 use mathlib.Core.Path.{◌≡◌, sym}

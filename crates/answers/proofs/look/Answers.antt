@@ -2,7 +2,6 @@
 use Rattle.answers.specs.Lines.{seen}
 use Rattle.read.specs.Answers.{row_in, fields_in, shown}
 use Rattle.read.proofs.Once.{part-there}
-use borrow.Author.Rules.{rules}
 use mathlib.Core.Path.{sym, ap, ◌∙◌}
 use Rattle.answers.proofs.look.Goals as goal
 

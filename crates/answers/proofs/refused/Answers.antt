@@ -1,7 +1,6 @@
 -- `refused` meets its contract: the words of the refusal, and the last word behind them.
 use Rattle.answers.specs.Lines.{refusal}
 use Rattle.text.proofs.Laws.{laid_next}
-use borrow.Author.Rules.{rules}
 use Rattle.answers.proofs.refused.Goals as goal
 
 pub returns : goal.returns

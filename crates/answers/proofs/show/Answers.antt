@@ -1,7 +1,6 @@
 -- `show` meets its contract: its words one behind the other.
 use Rattle.answers.specs.Lines.{found}
 use Rattle.text.proofs.Laws.{laid_next}
-use borrow.Author.Rules.{rules}
 use Rattle.answers.proofs.show.Goals as goal
 
 pub returns : goal.returns

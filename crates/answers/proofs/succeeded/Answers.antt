@@ -2,7 +2,6 @@
 use Rattle.answers.proofs.Laws.{succeeds}
 use Rattle.text.proofs.Laws.{laid_next}
 use Rattle.text.specs.Text.{laid}
-use borrow.Author.Rules.{rules}
 use mathlib.Core.Path.{ap, ◌∙◌}
 use Rattle.answers.proofs.succeeded.Goals as goal
 

@@ -1,6 +1,5 @@
 -- `tell` meets its contract: its test is the definition's.
 use Rattle.answers.specs.Lines.{told_by}
-use borrow.Author.Rules.{rules}
 use borrow.Author.Tests.{eq-eqb, ne_eqb}
 use Rattle.answers.proofs.tell.Goals as goal
 

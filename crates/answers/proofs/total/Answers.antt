@@ -1,6 +1,5 @@
 -- `total` meets its contract: the words of the sum, and the line's end behind them; a sum's parts make the sum.
 use mathlib.Core.Path.{◌∙◌}
-use borrow.Author.Rules.{rules}
 use Rattle.text.proofs.Laws.{laid_next}
 use Rattle.field.proofs.Parts.{whole-number}
 use Rattle.answers.specs.Lines.{total}

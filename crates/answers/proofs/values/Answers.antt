@@ -2,7 +2,6 @@
 use Rattle.answers.proofs.Laws.{take-over, few}
 use Rattle.laws.proofs.Bytes.{length_over}
 use Rattle.read.specs.Answers.{fields_in}
-use borrow.Author.Rules.{rules}
 use lib.ListN.{length, replicate}
 use lib.Seq.{length-take-le}
 use mathlib.Core.Path.{sym, ap}

@@ -2,7 +2,6 @@
 use Rattle.answers.proofs.Laws.{unhexed}
 use Rattle.answers.specs.Lines.{writing}
 use Rattle.talk.specs.Numbers.{number_in}
-use borrow.Author.Rules.{rules}
 use mathlib.Core.Path.{sym, ap, ◌∙◌}
 use Rattle.answers.proofs.write.Goals as goal
 
