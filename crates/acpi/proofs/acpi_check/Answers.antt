@@ -1,6 +1,5 @@
 -- `acpi_check` meets its contract: number and place are those of what `check` answers.
 use mathlib.Core.Path.{sym, ap, ◌∙◌}
-use borrow.Author.Rules.{rules}
 use Rattle.recipe.specs.Answers.{shown}
 use Rattle.build.specs.Answers.{number_in, place_of}
 use Rattle.acpi.proofs.Answers.{is-checked}
@@ -9,9 +8,9 @@ use Rattle.acpi.proofs.acpi_check.Goals as goal
 pub returns-in-Good : goal.returns-in-Good
 returns-in-Good c =
     let is = is-checked c.args.recipe.now (sym (ap shown c.in-Good.is) ∙ c.check.ensures) in
-    (ap number_in is, ap place_of is)
+    record { value = ap number_in is; place_after = ap place_of is }
 
 pub returns-in-Refused : goal.returns-in-Refused
 returns-in-Refused c =
     let is = is-checked c.args.recipe.now (sym (ap shown c.in-Refused.is) ∙ c.check.ensures) in
-    (c.number.ensures ∙ ap number_in is, ap place_of is)
+    record { value = c.number.ensures ∙ ap number_in is; place_after = ap place_of is }

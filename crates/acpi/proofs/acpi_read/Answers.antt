@@ -1,6 +1,5 @@
 -- `acpi_read` meets its contract: number and place are those of what `read` answers, and the numbers those of the record at its place.
 use mathlib.Core.Path.{sym, ap, ◌∙◌}
-use borrow.Author.Rules.{rules}
 use Rattle.read.specs.Answers.{shown}
 use Rattle.build.specs.Answers.{number_in, place_of}
 use Rattle.acpi.specs.Calls.{count_in, answered}
@@ -13,11 +12,11 @@ returns-in-Record c =
     let a = c.args in
     let is = sym (ap shown c.in-Record.is) ∙ c.read.ensures in
     let e = ap count_in is in
-    (ap number_in e, (ap place_of e, read_at a.table.now a.mask a.n c.in-Record.count c.in-Record.record a.answer.now _ is c.acpi_record_at.ensures))
+    record { value = ap number_in e; place_after = ap place_of e; answer_after = read_at a.table.now a.mask a.n c.in-Record.count c.in-Record.record a.answer.now _ is c.acpi_record_at.ensures }
 
 pub returns-in-Refused : goal.returns-in-Refused
 unfolding answered
 returns-in-Refused c =
     let is = sym (ap shown c.in-Refused.is) ∙ c.read.ensures in
     let e = ap count_in is in
-    (c.number.ensures ∙ ap number_in e, (c.place.ensures ∙ ap place_of e, rw (← is)))
+    record { value = c.number.ensures ∙ ap number_in e; place_after = c.place.ensures ∙ ap place_of e; answer_after = rw (← is) }
