@@ -9,7 +9,7 @@ use native.Mathlib.Nat.{add-zero}
 use lib.ListN.{length, take, drop, length-append}
 use lib.Seq.{take_at, drop_at, drop-drop}
 use borrow.Author.Tests.{le-leb}
-use Rattle.format.specs.Bytes.{pick, all, find, Answer, given, at}
+use Rattle.format.specs.Bytes.{pick, all, find, Answer, given}
 use Rattle.format.specs.Layout.{arities, lay, fields, fixed_ok, refs_good}
 use Rattle.format.specs.Table.{Table, revision, front, limit, least}
 use Rattle.format.specs.Form.{Form, processor, cache, memory, acpi, pci, rintc, old_rintc, domain, matrix, side, bridge, window, xor, size, type_of, Width, byte, pair, narrowest, layout, ranges}

@@ -9,7 +9,7 @@ use native.Mathlib.Omega.{arith}
 use lib.ListN.{length, take, drop}
 use lib.Dec.{eqb, leb, ltb}
 use borrow.Author.Tests.{eqb-true, eqb-false, ne_eqb, ltb-true, ltb-false}
-use Rattle.format.specs.Bytes.{pick, both, all, find, Answer, refused, given, and_then, or_refused, unless, at, sum, same}
+use Rattle.format.specs.Bytes.{pick, both, all, find, Answer, refused, given, and_then, or_refused, unless, sum, same}
 use Rattle.format.specs.Layout.{fields, fixed_ok, refs_good}
 use Rattle.format.specs.Table.{Table, pptt, srat, hmat, cedt, tables, sign, tail, front, limit}
 use Rattle.format.specs.Form.{Form, layout, ranges}

@@ -13,7 +13,7 @@ use lib.Dec.{eqb, leb, ltb}
 use borrow.Author.Tests.{eqb-true, eqb-false, ne_eqb, ltb-true, ltb-false}
 use Rattle.format.specs.Bytes.{pick, both, Answer, refused, given, and_then, or_refused, at, part}
 use Rattle.format.specs.Table.{Table, front, least}
-use Rattle.format.specs.Row.{Row, known}
+use Rattle.format.specs.Row.{Row}
 use Rattle.format.specs.Node.{Entry, entry, at_place}
 use Rattle.format.specs.Read.{length_in, own, judge_head, type_in, size_in, framed, Frames, ended, bad_frame, framed_at, frames, record_fault, Seen, seen_as, entry_of, push, walk, walked, accept, Reading, reading, fields_of, part_of, chosen, reading_of, read, read_part}
 use Rattle.laws.specs.Words.{FirstOf, NoneOf}

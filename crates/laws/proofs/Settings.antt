@@ -11,7 +11,7 @@ use lib.ListN.{length, take, drop, set, replicate, length-append, take-append-dr
 use lib.Seq.{take_at, drop_at, drop-drop, set_at}
 use lib.Dec.{eqb, leb}
 use borrow.Author.Tests.{eqb-true, eq-eqb, lt-ltb, le-ltb, leb-true}
-use Rattle.format.specs.Bytes.{pick, at, part, given}
+use Rattle.format.specs.Bytes.{pick, part, given}
 use Rattle.format.specs.Layout.{Item, fld, refs_good}
 use Rattle.format.specs.Table.{Table, pptt, srat, hmat, cedt, revision, code, front, limit, head_of}
 use Rattle.format.specs.Form.{Form, processor, cache, memory, acpi, pci, rintc, old_rintc, domain, matrix, side, bridge, window, xor, size, Width, byte, pair, octets, most, up_to, narrowest, layout, ranges}

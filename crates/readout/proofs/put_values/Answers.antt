@@ -20,13 +20,12 @@ loop-i-init c =
 
 pub loop-i-preserved : goal.loop-i-preserved
 unfolding width body
-loop-i-preserved c =
-    (
-      omega arith,
-      omega arith,
-      omega arith,
-      come-set as_is (fld 4) _ _ _ _ _ 0 c.loop-i-test.true (ap (λ (x : ℕ). x ∷ []) (sym c.get_u32.ensures)) c.put_value-p.ensures.0 c.loop-i.invariant.3,
-    )
+loop-i-preserved c = (
+  omega arith,
+  omega arith,
+  omega arith,
+  come-set as_is (fld 4) _ _ _ _ _ 0 c.loop-i-test.true (ap (λ (x : ℕ). x ∷ []) (sym c.get_u32.ensures)) c.put_value-p.ensures.0 c.loop-i.invariant.3,
+)
 
 pub shape_of-out : goal.shape_of-out
 shape_of-out c = laid-length (set-laid as_is (fld 4) _ _ _ _ _ 0 c.loop-i-test.false c.loop-i.invariant.3)
