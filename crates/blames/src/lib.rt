@@ -1,6 +1,6 @@
 // A place of a recipe in words, for people: the field that begins there, its record, and where that begins.
 // Where the fields stand in a body is asked of the node types; what they are called stands here.
-#![tactic(auto)]
+#![tactic(auto, unfolding(crate::specs::Words::field_of, crate::specs::Words::of_the, crate::specs::Words::name_at, crate::specs::Words::field_names, crate::specs::Words::record_name, format::specs::Kind::body))]
 
 ghost use Rattle.std.specs.Prelude.{◌≡◌, [], drop};
 ghost use Rattle.std.proofs.Math.Option.{some};
@@ -343,6 +343,7 @@ fn holder(recipe: &[u8], table: Table, place: usize) -> Held
 }
 
 // The words for the field that begins at a place behind the head.
+#[tactic(auto, unfolding(crate::specs::Words::record_words))]
 fn behind_head(recipe: &[u8], table: Table, place: usize, out: &mut [u8], n: usize) -> usize
     ensures { (result, out.new) ≡ laid out.old n (record_words place (holder place (cut (meant table) 0 28 (drop 28 recipe.now)))) }
 {
@@ -353,6 +354,7 @@ fn behind_head(recipe: &[u8], table: Table, place: usize, out: &mut [u8], n: usi
 }
 
 // The words for the field that begins at a place of the head.
+#[tactic(auto, unfolding(crate::specs::Words::head_words, crate::specs::Words::words, crate::specs::Words::of_the, format::specs::Listing::digits))]
 fn in_head(place: usize, out: &mut [u8], n: usize) -> usize
     ensures { (result, out.new) ≡ laid out.old n (head_words place) }
 {

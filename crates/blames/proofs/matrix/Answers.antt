@@ -1,8 +1,5 @@
 -- `matrix` meets its contract: the fields of a matrix begin where the widths before them end.
-use mathlib.Core.Path.{sym, ◌∙◌}
-use Prim.Native.Nat.{◌+◌}
-use borrow.Author.Tests.{ne_eqb}
-use Rattle.format.specs.Form.{octets}
+use mathlib.Core.Path.{◌∙◌}
 use Rattle.format.specs.Kind.{body}
 use Rattle.hmat.specs.Widths.{meant_width}
 use Rattle.blames.specs.Words.{record_name, field_names, name_at, of_the, field_of}
@@ -33,11 +30,3 @@ pub returns-then-at-targets_at : goal.returns-then-at-targets_at
 returns-then-at-targets_at c =
     let a = c.args in
     c.bytes.ensures ∙ rw (c.if-at-targets_at.true ∙ c.targets_at.ensures, matrix-targets (meant_width a.width))
-
--- no field
-pub returns-in_default : goal.returns-in_default
-unfolding field_of of_the name_at field_names record_name body
-returns-in_default c =
-    let o = c.in_default.in_default-own.rest in
-    let targets-at = 11 + octets (meant_width c.args.width) in
-    c.nothing.ensures ∙ rw (ne_eqb _ 0 o.0.0.0.0.1, ne_eqb _ 1 o.0.0.0.1, ne_eqb _ 2 o.0.0.1, ne_eqb _ 3 o.0.1, ne_eqb _ 11 o.1, ne_eqb _ targets-at (λ h. c.if-at-targets_at.false (h ∙ sym c.targets_at.ensures)))
