@@ -12,7 +12,7 @@ fn show(rt: &HostRuntime, path: &[u8]) -> io::Result<()> {
         return Ok(());
     };
     let mut text = prints::room();
-    let m = lists::lines(&space[..n], &mut text);
+    let m = lists::lines(field::part(&space, 0, n), &mut text);
     prints::write_first(rt, &text, m)
 }
 

@@ -13,7 +13,7 @@ fn show(rt: &HostRuntime, path: &[u8]) -> io::Result<()> {
     let Some(n) = prints::read_named(rt, path, &mut space)? else {
         return Ok(());
     };
-    shows::show(rt, &space[..n], false)
+    shows::show(rt, field::part(&space, 0, n), false)
 }
 
 // The table that an argument names.

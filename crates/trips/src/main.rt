@@ -88,7 +88,7 @@ fn show(rt: &HostRuntime, path: &[u8]) -> io::Result<()> {
     let Some(n) = prints::read_named(rt, path, &mut bytes)? else {
         return Ok(());
     };
-    trip(rt, &bytes[..n])
+    trip(rt, field::part(&bytes, 0, n))
 }
 
 fn argument(rt: &HostRuntime, i: usize) -> io::Result<()> {
