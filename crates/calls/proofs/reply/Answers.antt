@@ -1,5 +1,4 @@
 -- `calls::reply` meets its contract: its test is the definition's.
-use borrow.Author.Rules.{rules}
 use Rattle.calls.proofs.reply.Goals as goal
 
 pub returns-then-p : goal.returns-then-p

@@ -1,6 +1,5 @@
 -- `calls::serve` is safe and ends: the turns are counted down.
 use mathlib.Core.Path.{◌≡◌}
-use borrow.Author.Rules.{rules}
 use lib.ListN.{length}
 use Rattle.calls.proofs.serve.Given as goal
 

@@ -1,7 +1,6 @@
 -- `calls::take_all` is safe and ends: one byte fewer is left with each turn.
 use mathlib.Core.Path.{◌≡◌}
 use Prim.Native.Nat.{◌-◌}
-use borrow.Author.Rules.{rules}
 use lib.ListN.{length}
 use Rattle.calls.proofs.take_all.Given as goal
 
