@@ -1,6 +1,5 @@
 -- `shows::records` is safe and ends: one record fewer is left with each turn, and the next place stays within the table.
 use Prim.Native.Nat.{◌-◌}
-use borrow.Author.Rules.{rules}
 use Rattle.shows.proofs.records.Given as goal
 
 abbrev pub invariant-loop-i : goal.invariant-loop-i

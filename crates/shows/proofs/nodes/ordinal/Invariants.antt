@@ -1,6 +1,5 @@
 -- `shows::nodes::ordinal` is safe and ends: fewer bytes stand before the place with each turn.
 use Prim.Native.Nat.{◌-◌, ◌+◌, ◌≤◌}
-use borrow.Author.Rules.{rules}
 use Rattle.shows.proofs.nodes.ordinal.Given as goal
 
 abbrev pub invariant-loop-at : goal.invariant-loop-at
