@@ -21,6 +21,10 @@ use Rattle.hmat.specs.declared.Cell as declared
 use Rattle.hmat.specs.Hmat.{matrix_call}
 use Rattle.hmat.specs.Settings.{value_fields, value_call, cell_fields, in_counts}
 
+pub octets-small : (w : Width) → octets w ≤ 2
+octets-small byte = omega arith
+octets-small pair = omega arith
+
 pub cell-small : (w : Width) → width (body (Cell w)) ≤ 6
 unfolding width body
 cell-small byte = omega arith

@@ -1,10 +1,11 @@
 -- Attributes and flags: what the constructors and the setters make lies at its bits and within the ranges of the format.
 use mathlib.Core.Path.{◌≡◌, refl}
-use Prim.Native.Nat.{ℕ, ◌+◌, ◌*◌, ◌/◌, ◌^◌, ◌≤◌, ◌<◌}
+use Prim.Native.Nat.{ℕ, ◌+◌, ◌*◌, ◌/◌, ◌%◌, ◌^◌, ◌≤◌, ◌<◌}
 use mathlib.Core.List.{[], ◌∷◌}
 use mathlib.Core.Bool.{true}
 use native.Mathlib.Omega.{arith}
-use lib.Bits.{bit_or, or_shr, or_mod, or_lt}
+use native.Mathlib.Nat.{mod-eq_of_lt, add_comm}
+use lib.Bits.{bit_or, or_shifted_r, or_shr, or_mod, or_lt}
 use lib.Dec.{eqb, leb, ltb}
 use borrow.Author.Tests.{le-leb, lt-ltb, ltb-true, eqb-true}
 use Rattle.format.specs.Bytes.{all, bits}
@@ -24,7 +25,7 @@ use Rattle.hmat.specs.declared.Associativity.TheVariants as associativity
 use Rattle.hmat.specs.declared.WritePolicy.{WritePolicy}
 use Rattle.hmat.specs.declared.WritePolicy.TheVariants as policy
 use Rattle.hmat.specs.Numbers.{data_type_number, transfer_number, locality_number, level_number, associativity_number, policy_number}
-use Rattle.hmat.specs.Hmat.{matrix_of, matrix_with, matrix_form, matrix_fields, side_of, side_fields}
+use Rattle.hmat.specs.Hmat.{matrix_of, matrix_with, matrix_form, matrix_fields, attributes_of, side_of, side_fields}
 
 -- ---- matrices
 
@@ -107,6 +108,10 @@ policy-small policy.None = omega arith
 policy-small policy.Writeback = omega arith
 policy-small policy.Writethrough = omega arith
 
+-- a number shifted past another is added to it
+shifted : (x y k : ℕ) → x < 2 ^ k → y * 2 ^ k < 2 ^ 32 → bit_or x (y * 2 ^ k % 2 ^ 32) ≡ x + y * 2 ^ k
+shifted x y k h l = rw (mod-eq_of_lt l, or_shifted_r y k x h) (add_comm (y * 2 ^ k) x)
+
 -- four bits each
 digits : (a b c d l : ℕ) → a < 16 → b < 16 → c < 16 → d < 16
     → let v : ℕ = a + b * 2 ^ 4 + c * 2 ^ 8 + d * 2 ^ 12 + l * 2 ^ 16 in (bits v 0 4 ≡ a) × (bits v 4 4 ≡ b) × (bits v 8 4 ≡ c) × (bits v 12 4 ≡ d)
@@ -118,6 +123,19 @@ digits a b c d l ha hb hc hd =
     (omega arith, rw p (omega arith), rw q (omega arith), rw r (omega arith))
 
 module _ (total this : CacheLevel) (a : Associativity) (p : WritePolicy) (line : ℕ) where
+  pub attributes-or : line < 2 ^ 16
+      → bit_or (bit_or (bit_or (bit_or (level_number total) (level_number this * 2 ^ 4 % 2 ^ 32)) (associativity_number a * 2 ^ 8 % 2 ^ 32)) (policy_number p * 2 ^ 12 % 2 ^ 32)) (line * 2 ^ 16 % 2 ^ 32)
+      ≡ attributes_of total this a p line
+  attributes-or h =
+      let x = level-small total in
+      let y = level-small this in
+      let z = associativity-small a in
+      let w = policy-small p in
+      let one = level_number total + level_number this * 2 ^ 4 in
+      let two = one + associativity_number a * 2 ^ 8 in
+      let three = two + policy_number p * 2 ^ 12 in
+      rw (shifted (level_number total) (level_number this) 4 (omega arith) (omega arith), shifted one (associativity_number a) 8 (omega arith) (omega arith), shifted two (policy_number p) 12 (omega arith) (omega arith), shifted three line 16 (omega arith) (omega arith))
+
   pub side-ruled : (d s n : ℕ) → all (ranges (side n) (side_fields (side_of d s total this a p line))) ≡ true
   unfolding ranges side_attributes
   side-ruled d s n =

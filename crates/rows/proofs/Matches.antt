@@ -3,14 +3,15 @@ use mathlib.Core.Path.{◌≡◌, refl, sym, ◌∙◌}
 use Prim.Native.Nat.{ℕ}
 use mathlib.Core.List.{List}
 use mathlib.Core.Bool.{Bool}
-use mathlib.Core.Option.{none, some}
+use mathlib.Core.Option.{Option, none, some}
 use borrow.Author.Tests.{ne_eqb}
 use Rattle.format.specs.Bytes.{pick, value, part}
 use Rattle.format.specs.Table.{Table, pptt, srat, hmat, cedt, revision, frame}
 use Rattle.format.specs.Form.{byte, pair}
-use Rattle.format.specs.Row.{processors, caches, memories, initiators, old_rintcs, domains, matrices, sides, bridges, windows, xors, rintcs, home, row_type, column, matches, row_of}
+use Rattle.format.specs.Row.{processors, caches, memories, initiators, old_rintcs, domains, matrices, sides, bridges, windows, xors, rintcs, home, row_type, column, matches, row_of, known}
 use Rattle.format.specs.Row as format
 use Rattle.format.specs.Read.{type_in}
+use Rattle.rows.specs.Rows.{knows_as}
 
 pub other-revision : (t : Table) {rev : ℕ} (bs : List ℕ) → (rev ≡ revision t → ⊥) → none ≡ row_of t rev (type_in t bs) bs
 unfolding row_of matches
@@ -68,3 +69,8 @@ pub by-counts : {rev x : ℕ} (bs : List ℕ) → rev ≡ 1 → x ≡ value (par
     → pick (column (matrices byte) bs) (some (matrices byte)) (pick (column (matrices pair) bs) (some (matrices pair)) none) ≡ row_of hmat rev (type_in hmat bs) bs
 unfolding row_of matches part
 by-counts bs e f g = let t : type_in hmat bs ≡ 1 = sym f ∙ g in sym (rw (e, t))
+
+-- the mask chooses the row, or none
+pub known-pick : (mask : ℕ) (o : Option format.Row) → known mask o ≡ pick (knows_as mask o) o none
+known-pick mask none = refl
+known-pick mask (some r) = refl
