@@ -13,9 +13,8 @@ ghost use Rattle.read.specs.Answers.{row_in, fields_in};
 ghost use Rattle.build.specs.Answers.{number_in, place_of};
 ghost use Rattle.acpi.specs.Calls.{checked, numbers_with, numbers, count_in, answered};
 
-use build::Built;
-use read::{Accepted, Reply, Shown};
-use recipe::Checked;
+use build::BuildError;
+use read::Shown;
 
 // Builds the table of a recipe; place gets its length.
 pub fn acpi_build(recipe: &[u8], out: &mut [u8], place: &mut usize) -> u32
@@ -23,9 +22,16 @@ pub fn acpi_build(recipe: &[u8], out: &mut [u8], place: &mut usize) -> u32
     ensures place_after { place.new ≡ place_of (build recipe.now (length out.old)) }
     ensures out_after { out.new ≡ built recipe.now out.old }
 {
-    let answer = build::build(recipe, out);
-    *place = answer.place();
-    answer.number() as u32
+    match build::build(recipe, out) {
+        Ok(len) => {
+            *place = len;
+            0
+        }
+        Err(e) => {
+            *place = e.place();
+            e.number() as u32
+        }
+    }
 }
 
 // Judges a recipe; place gets the length of its table.
@@ -34,13 +40,13 @@ pub fn acpi_check(recipe: &[u8], place: &mut usize) -> u32
     ensures place_after { place.new ≡ place_of (checked recipe.now) }
 {
     match recipe::check(recipe) {
-        Checked::Good(_, len) => {
-            *place = len;
+        Ok(outline) => {
+            *place = outline.len;
             0
         }
-        Checked::Refused(refusal, at) => {
-            *place = at;
-            Built::Refused(refusal, at).number() as u32
+        Err(refused) => {
+            *place = refused.at;
+            BuildError::Refused(refused).number() as u32
         }
     }
 }
@@ -51,9 +57,16 @@ pub fn acpi_read_out(table: &[u8], out: &mut [u8], place: &mut usize) -> u32
     ensures place_after { place.new ≡ place_of (read_out table.now (length out.old)) }
     ensures out_after { out.new ≡ out_written table.now out.old }
 {
-    let answer = readout::read_out(table, out);
-    *place = answer.place();
-    answer.number()
+    match readout::read_out(table, out) {
+        Ok(len) => {
+            *place = len;
+            0
+        }
+        Err(e) => {
+            *place = e.place();
+            e.number()
+        }
+    }
 }
 
 // Judges a table by the rows that the mask has; place gets the number of its records.
@@ -62,11 +75,11 @@ pub fn acpi_accept(table: &[u8], mask: u32, place: &mut usize) -> u32
     ensures place_after { place.new ≡ place_of (counted (format.accept table.now mask)) }
 {
     match read::accept(table, mask) {
-        Accepted::Records(records) => {
+        Ok(records) => {
             *place = records;
             0
         }
-        Accepted::Refused(refusal) => {
+        Err(refusal) => {
             *place = refusal.place();
             refusal.number()
         }
@@ -91,7 +104,7 @@ fn put_record(s: Shown, at: usize, len: usize, answer: &mut [u64])
         at as u64,
         len as u64,
     ];
-    field::copy_u64(answer, 0, &front);
+    field::copy(answer, 0, &front);
     numbers::put_fields(node, answer, FIELDS_AT);
 }
 
@@ -120,12 +133,12 @@ pub fn acpi_read(table: &[u8], mask: u32, n: usize, answer: &mut [u64], place: &
     ensures answer_after { answer.new ≡ answered (format.read table.now mask n) (format.read_part table.now mask n) answer.old }
 {
     match read::read(table, mask, n) {
-        Reply::Record { count, record } => {
-            *place = count;
-            acpi_record_at(table, mask, record.place, answer);
+        Ok(reading) => {
+            *place = reading.count;
+            acpi_record_at(table, mask, reading.record.place, answer);
             0
         }
-        Reply::Refused(refusal) => {
+        Err(refusal) => {
             *place = refusal.place();
             refusal.number()
         }

@@ -1,7 +1,7 @@
 -- The answer to a line of text, as docs/CALLS.md has it.
-use Rattle.std.specs.Prelude.{ℕ, ◌-◌, ◌^◌, min, List, ◌++◌, Bool, true, false, eqb, length, take, drop, replicate}
-use Rattle.std.proofs.Math.Option.{Option, none, some}
-use Rattle.format.specs.Bytes.{pick, Answer, refused, given, sum}
+use Rattle.std.specs.Prelude.{ℕ, ◌-◌, ◌^◌, min, List, ◌++◌, Bool, true, false, length, take, drop, replicate, Option, Some, None, Result, Ok, Err}
+use Rattle.std.proofs.Math.Option as math
+use Rattle.format.specs.Bytes.{Answer, refused, given, sum}
 use Rattle.format.specs.Row.{Row, row_number}
 use Rattle.format.specs.Build.{build, built}
 use Rattle.format.specs.Out.{read_out, out_written, every}
@@ -10,13 +10,13 @@ use Rattle.format.specs.Listing.{digits, spaced, refused_words, sum_words}
 use Rattle.text.specs.Text.{text, hexed, listed}
 use Rattle.talk.specs.declared.Call.{Call}
 use Rattle.talk.specs.declared.Call.TheVariants as call
-use Rattle.talk.specs.declared.Number.{Number}
-use Rattle.talk.specs.declared.Number.TheVariants as number
-use Rattle.talk.specs.declared.Data.{Data}
-use Rattle.talk.specs.declared.Data.TheVariants as bytes
+use Rattle.talk.specs.declared.DataError.{DataError}
+use Rattle.talk.specs.declared.DataError.TheVariants.{TooLong, Other}
 use Rattle.talk.specs.Words.{word_in, behind_in, call_in}
 use Rattle.talk.specs.Numbers.{number_in}
 use Rattle.talk.specs.Hex.{pairs, data_in, all_are}
+use Rattle.answers.specs.declared.Writes.{Writes}
+use Rattle.answers.specs.declared.Writes.TheVariants as writes
 
 -- ---- the lines
 
@@ -27,6 +27,11 @@ what = text "what?\n"
 -- of a line with too many bytes
 abbrev pub too_long : List ℕ
 too_long = text "too long\n"
+
+-- of words that stand for no bytes, or for too many
+abbrev pub bad : DataError → List ℕ
+bad TooLong = too_long
+bad Other = what
 
 -- the end of an answer
 abbrev pub kept_if : Bool → List ℕ
@@ -52,14 +57,10 @@ unfoldable pub told : Answer ℕ → List ℕ → List ℕ
 told (refused n p) out = refusal n p (all_are fill out)
 told (given n) out = success n out
 
--- the same of an answer's number, 0 where a length is given, and of its place or length
-unfoldable pub told_by : ℕ → ℕ → List ℕ → List ℕ
-told_by n p out = pick (eqb n 0) (success p out) (refusal n p (all_are fill out))
-
 -- the table of a recipe, or the recipe of a table
-unfoldable pub carried_out : Bool → List ℕ → List ℕ → List ℕ
-carried_out true r out = told (build r (length out)) (built r out)
-carried_out false b out = told (read_out b (length out)) (out_written b out)
+unfoldable pub carried_out : Writes → List ℕ → List ℕ → List ℕ
+carried_out writes.Build r out = told (build r (length out)) (built r out)
+carried_out writes.Out b out = told (read_out b (length out)) (out_written b out)
 
 -- the buffer: room bytes, at most most
 abbrev pub lent : ℕ → ℕ → List ℕ
@@ -68,12 +69,12 @@ lent most room = replicate (min room most) fill
 -- ---- reading
 
 -- ROW and VALUES, '-' both of a record that no known row fits
-unfoldable pub content : Option Row → List ℕ → List ℕ
-content none vs = text "- -"
-content (some r) vs = digits 20 (row_number r) ++ (text " " ++ listed vs)
+unfoldable pub content : math.Option Row → List ℕ → List ℕ
+content math.none vs = text "- -"
+content (math.some r) vs = digits 20 (row_number r) ++ (text " " ++ listed vs)
 
 -- the same and PART, the end of the line
-unfoldable pub ending : Option Row → List ℕ → List ℕ → List ℕ
+unfoldable pub ending : math.Option Row → List ℕ → List ℕ → List ℕ
 ending row vs bs = text " " ++ (content row vs ++ (text " " ++ (hexed bs ++ text "\n")))
 
 -- record COUNT TYPE PLACE LENGTH ROW VALUES PART
@@ -94,20 +95,19 @@ total bs = sum_words (sum bs) ++ text "\n"
 -- ---- the request
 
 -- f of a number; where a word is none, what that is answered
-abbrev pub of_number : Number → (ℕ → List ℕ) → List ℕ
-of_number (number.Value v) f = f v
-of_number number.Other f = what
+abbrev pub of_number : Option ℕ → (ℕ → List ℕ) → List ℕ
+of_number (Some v) f = f v
+of_number None f = what
 
 -- f of the bytes that a word w stands for; where it stands for too many or for none, that
-abbrev pub of_bytes : Data → List ℕ → (List ℕ → List ℕ) → List ℕ
-of_bytes (bytes.Count k) w f = f (pairs w)
-of_bytes bytes.TooLong w f = too_long
-of_bytes bytes.Other w f = what
+abbrev pub of_bytes : Result ℕ DataError → List ℕ → (List ℕ → List ℕ) → List ℕ
+of_bytes (Ok k) w f = f (pairs w)
+of_bytes (Err e) w f = bad e
 
 -- the words behind 'build' and 'out', ROOM HEX; taken and lends: the most bytes that are taken and lent
-unfoldable pub writing : ℕ → ℕ → Bool → List ℕ → List ℕ
-writing taken lends builds ws =
-    of_number (number_in (2 ^ 64 - 1) (word_in ws)) (λ n. of_bytes (data_in taken (behind_in ws)) (behind_in ws) (λ bs. carried_out builds bs (lent lends n)))
+unfoldable pub writing : ℕ → ℕ → Writes → List ℕ → List ℕ
+writing taken lends w ws =
+    of_number (number_in (2 ^ 64 - 1) (word_in ws)) (λ n. of_bytes (data_in taken (behind_in ws)) (behind_in ws) (λ bs. carried_out w bs (lent lends n)))
 
 -- the words behind 'read', MASK N HEX
 unfoldable pub asking : ℕ → List ℕ → List ℕ
@@ -120,12 +120,12 @@ unfoldable pub adding : ℕ → List ℕ → List ℕ
 adding taken ws = of_bytes (data_in taken ws) ws total
 
 -- by the call that the first word names
-abbrev pub named : ℕ → ℕ → Call → List ℕ → List ℕ
-named taken lends call.Build ws = writing taken lends true ws
-named taken lends call.Out ws = writing taken lends false ws
-named taken lends call.Read ws = asking taken ws
-named taken lends call.Sum ws = adding taken ws
-named taken lends call.Other ws = what
+abbrev pub named : ℕ → ℕ → Option Call → List ℕ → List ℕ
+named taken lends (Some call.Build) ws = writing taken lends writes.Build ws
+named taken lends (Some call.Out) ws = writing taken lends writes.Out ws
+named taken lends (Some call.Read) ws = asking taken ws
+named taken lends (Some call.Sum) ws = adding taken ws
+named taken lends None ws = what
 
 -- the answer to a line
 unfoldable pub answer_to : ℕ → ℕ → List ℕ → List ℕ

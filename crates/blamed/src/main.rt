@@ -12,11 +12,11 @@ fn tell(rt: &impl Print, recipe: &[u8], place: usize) -> io::Result<()> {
     }
     print!(rt; "{place}: ")?;
     prints::write_first(rt, &words, n)?;
-    rt.write_all(b"\n")
+    println!(rt)
 }
 
-fn tell_all(rt: &impl Print, title: &[u8], recipe: &[u8]) -> io::Result<()> {
-    rt.write_all(title)?;
+fn tell_all(rt: &impl Print, title: &str, recipe: &[u8]) -> io::Result<()> {
+    println!(rt; "{title}")?;
     for place in 0..recipe.len() {
         tell(rt, recipe, place)?;
     }
@@ -29,14 +29,14 @@ fn pptt(rt: &impl Print) -> io::Result<()> {
     r[28] = 18;
     r[50] = 16;
     r[63] = 17;
-    tell_all(rt, b"PPTT\n", &r)?;
-    tell_all(rt, b"PPTT, cut\n", &r[..35])?;
+    tell_all(rt, "PPTT", &r)?;
+    tell_all(rt, "PPTT, cut", &r[..35])?;
     r[50] = 32;
-    tell_all(rt, b"PPTT, a kind of SRAT\n", &r)?;
+    tell_all(rt, "PPTT, a kind of SRAT", &r)?;
     r[1] = 4;
-    tell_all(rt, b"no table\n", &r)?;
+    tell_all(rt, "no table", &r)?;
     r[0] = 0;
-    tell_all(rt, b"no head\n", &r)
+    tell_all(rt, "no head", &r)
 }
 
 fn srat(rt: &impl Print) -> io::Result<()> {
@@ -47,7 +47,7 @@ fn srat(rt: &impl Print) -> io::Result<()> {
     r[50] = 33;
     r[68] = 34;
     r[79] = 36;
-    tell_all(rt, b"SRAT\n", &r)
+    tell_all(rt, "SRAT", &r)
 }
 
 fn hmat(rt: &impl Print) -> io::Result<()> {
@@ -65,7 +65,7 @@ fn hmat(rt: &impl Print) -> io::Result<()> {
     r[104] = 56;
     r[111] = 57;
     r[118] = 58;
-    tell_all(rt, b"HMAT\n", &r)
+    tell_all(rt, "HMAT", &r)
 }
 
 fn cedt(rt: &impl Print) -> io::Result<()> {
@@ -77,7 +77,7 @@ fn cedt(rt: &impl Print) -> io::Result<()> {
     r[65] = 66;
     r[70] = 67;
     r[72] = 68;
-    tell_all(rt, b"CEDT\n", &r)
+    tell_all(rt, "CEDT", &r)
 }
 
 fn main(rt: HostRuntime) -> io::Result<()> {

@@ -1,21 +1,18 @@
--- A field's name goes by its distance from the first one, by induction over the body; before that there is none. The place is laid
--- behind a field only where there is one: a buffer that is as full as before held no field or has no room, and then nothing changes.
-use mathlib.Core.Path.{◌≡◌, refl, ap, sym, ◌∙◌}
-use Prim.Native.Nat.{ℕ, ◌+◌, ◌-◌, ◌≤◌, ◌<◌, min}
+-- A field's name goes by its distance from the first one, by induction over the body; before that there is none.
+use mathlib.Core.Path.{◌≡◌, refl, ap}
+use Prim.Native.Nat.{ℕ, ◌+◌, ◌-◌, ◌≤◌, ◌<◌}
 use mathlib.Core.List.{List, [], ◌∷◌, ◌++◌}
 use mathlib.Core.Bool.{Bool, true, false}
 use native.Mathlib.Omega.{arith}
 use native.Mathlib.Nat.{add_assoc}
 use borrow.Author.Tests.{eq-eqb, ne_eqb, eqb-true, eqb-false}
 use lib.Dec.{eqb}
+use Rattle.std.specs.Bool.{◌==◌}
 use lib.ListN.{length}
-use Rattle.format.specs.Bytes.{over}
 use Rattle.format.specs.Layout.{Item, wide}
 use Rattle.format.specs.Kind.{Kind, body}
 use Rattle.format.specs.Listing.{spaced}
-use Rattle.laws.proofs.Bytes.{over-past}
-use Rattle.text.specs.Text.{text, laid}
-use Rattle.text.proofs.Laws.{laid_as, laid_next}
+use Rattle.text.specs.Text.{text}
 use Rattle.blames.specs.Words.{record_name, field_names, name_at, of_the, field_of, words}
 
 -- ---- names
@@ -54,27 +51,13 @@ field-before k p place h = rw (name-before (p + 1) (body k) (field_names k) plac
 
 -- ---- words
 
-module _ (out : List ℕ) (n p : ℕ) {m : ℕ} {x : List ℕ} where
-  -- the buffer is as full as before
-  pub words-none : (s : List ℕ) → ◌≡◌ {A = ℕ × List ℕ} (m, x) (laid out n s) → m ≡ n → ◌≡◌ {A = ℕ × List ℕ} (m, x) (laid out n (words s p))
-  unfolding laid words
-  words-none [] e q = e
-  words-none (c ∷ cs) e q =
-      let f : m ≡ min (length out) (n + length (c ∷ cs)) = ap (λ (w : ℕ × List ℕ). w.0) e in
-      let b : x ≡ over out n (c ∷ cs) = ap (λ (w : ℕ × List ℕ). w.1) e in
-      let full : length out ≤ n = omega (arith, f) in
-      laid_as out n _ (omega (arith, f)) (rw (b, over-past out n (c ∷ cs) full, over-past out n ((c ∷ cs) ++ (text " at" ++ spaced p)) full))
+-- behind a field stands its record's place
+pub words-there : (s : List ℕ) (p : ℕ) → (length s == 0) ≡ false → words s p ≡ s ++ (text " at" ++ spaced p)
+unfolding words
+words-there (c ∷ cs) p h = refl
+words-there [] p h = absurd (eqb-false 0 0 h refl)
 
-  -- it is not
-  pub words-some : (s : List ℕ) → ◌≡◌ {A = ℕ × List ℕ} (m, x) (laid out n s) → (m ≡ n → ⊥)
-      → {k : ℕ} {y : List ℕ} → ◌≡◌ {A = ℕ × List ℕ} (k, y) (laid x m (text " at" ++ spaced p)) → ◌≡◌ {A = ℕ × List ℕ} (k, y) (laid out n (words s p))
-  unfolding laid words
-  words-some (c ∷ cs) e q f = laid_next out n (c ∷ cs) (text " at" ++ spaced p) e f
-  words-some [] e q {k} {y} f =
-      let a : m ≡ min (length out) (n + 0) = ap (λ (w : ℕ × List ℕ). w.0) e in
-      let b : x ≡ over out n [] = ap (λ (w : ℕ × List ℕ). w.1) e in
-      let low : length out ≤ n = omega (arith, a, q) in
-      let same : x ≡ out = b ∙ over-past out n [] low in
-      let g : k ≡ min (length x) (m + length (text " at" ++ spaced p)) = ap (λ (w : ℕ × List ℕ). w.0) f in
-      let d : y ≡ over x m (text " at" ++ spaced p) = ap (λ (w : ℕ × List ℕ). w.1) f in
-      laid_as out n [] (rw same at g ∙ omega (arith, a, q)) (d ∙ rw same (over-past out m (text " at" ++ spaced p) (omega (arith, a, q))) ∙ sym (over-past out n [] low))
+pub words-none : (s : List ℕ) (p : ℕ) → (length s == 0) ≡ true → words s p ≡ []
+unfolding words
+words-none [] p h = refl
+words-none (c ∷ cs) p h = absurd (omega (arith, eqb-true (length (c ∷ cs)) 0 h))

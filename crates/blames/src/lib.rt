@@ -2,383 +2,382 @@
 // Where the fields stand in a body is asked of the node types; what they are called stands here.
 #![tactic(auto, unfolding(crate::specs::Words::field_of, crate::specs::Words::of_the, crate::specs::Words::name_at, crate::specs::Words::field_names, crate::specs::Words::record_name, format::specs::Kind::body))]
 
-ghost use Rattle.std.specs.Prelude.{◌≡◌, [], drop};
-ghost use Rattle.std.proofs.Math.Option.{some};
+ghost use Rattle.std.specs.Prelude.{◌≡◌, ◌+◌, [], drop};
 ghost use Rattle.format.specs.Kind as format;
 ghost use Rattle.format.specs.Recipe.{cut};
 ghost use Rattle.header.specs.Header.{meant};
 ghost use Rattle.hmat.specs.Widths.{meant_width};
 ghost use Rattle.recipe.specs.Kinds.{meant_kind};
-ghost use Rattle.text.specs.Text.{laid};
-ghost use Rattle.blames.specs.Words.{field_of, holder, head_words, record_words, field_words};
+ghost use Rattle.text.specs.Text.{laid, with};
+ghost use Rattle.blames.specs.Words.{words, field_of, holder, head_words, record_words, field_words};
 ghost use Rattle.blames.specs.Holders.{held_by};
 
 use cedt::{CxlFixedMemory, CxlHostBridge, CxlTarget, XorInterleaveMath, XorMap};
-use header::{Coded, Table, TableHeader};
+use header::{Table, TableHeader};
 use hmat::{
     Cell, MemoryProximityDomain, MemorySideCache, SmbiosHandle, SystemLocality, Value, Width,
 };
 use pptt::{CacheNode, ProcessorNode, Resource};
-use recipe::{Kind, Named};
+use recipe::Kind;
 use srat::{GenericInitiator, MemoryAffinity, RintcAffinity};
-
-// Lays nothing; how far the buffer is filled.
-fn nothing(out: &[u8], n: usize) -> usize
-    ensures { (result, out.now) ≡ laid out.now n [] }
-{
-    let len = out.len();
-    if len <= n {
-        return len;
-    }
-    n
-}
+use text::Text;
 
 // ---- the fields of each kind, by their places in a body; nothing where none begins
 
-fn processor(at: usize, out: &mut [u8], n: usize) -> usize
-    ensures { (result, out.new) ≡ laid out.old n (field_of format.Processor 0 at) }
+fn processor(at: usize) -> &'static [u8]
+    ensures { result.now ≡ field_of format.Processor 0 at }
 {
     match at {
-        ProcessorNode::FLAGS_AT => text::bytes(out, n, b"flags of the processor"),
-        ProcessorNode::PARENT_AT => text::bytes(out, n, b"parent of the processor"),
-        ProcessorNode::ID_AT => text::bytes(out, n, b"processor ID of the processor"),
-        _ => nothing(out, n),
+        ProcessorNode::FLAGS_AT => b"flags of the processor",
+        ProcessorNode::PARENT_AT => b"parent of the processor",
+        ProcessorNode::ID_AT => b"processor ID of the processor",
+        _ => b"",
     }
 }
 
-fn resource(at: usize, out: &mut [u8], n: usize) -> usize
-    ensures { (result, out.new) ≡ laid out.old n (field_of format.Resource 0 at) }
+fn resource(at: usize) -> &'static [u8]
+    ensures { result.now ≡ field_of format.Resource 0 at }
 {
     match at {
-        Resource::CACHE_AT => text::bytes(out, n, b"cache of the resource"),
-        _ => nothing(out, n),
+        Resource::CACHE_AT => b"cache of the resource",
+        _ => b"",
     }
 }
 
-fn cache(at: usize, out: &mut [u8], n: usize) -> usize
-    ensures { (result, out.new) ≡ laid out.old n (field_of format.Cache 0 at) }
+fn cache(at: usize) -> &'static [u8]
+    ensures { result.now ≡ field_of format.Cache 0 at }
 {
     match at {
-        CacheNode::FLAGS_AT => text::bytes(out, n, b"flags of the cache"),
-        CacheNode::NEXT_LEVEL_AT => text::bytes(out, n, b"next level of the cache"),
-        CacheNode::SIZE_AT => text::bytes(out, n, b"size of the cache"),
-        CacheNode::SETS_AT => text::bytes(out, n, b"sets of the cache"),
-        CacheNode::ASSOCIATIVITY_AT => text::bytes(out, n, b"associativity of the cache"),
-        CacheNode::ATTRIBUTES_AT => text::bytes(out, n, b"attributes of the cache"),
-        CacheNode::LINE_SIZE_AT => text::bytes(out, n, b"line size of the cache"),
-        CacheNode::ID_AT => text::bytes(out, n, b"ID of the cache"),
-        _ => nothing(out, n),
+        CacheNode::FLAGS_AT => b"flags of the cache",
+        CacheNode::NEXT_LEVEL_AT => b"next level of the cache",
+        CacheNode::SIZE_AT => b"size of the cache",
+        CacheNode::SETS_AT => b"sets of the cache",
+        CacheNode::ASSOCIATIVITY_AT => b"associativity of the cache",
+        CacheNode::ATTRIBUTES_AT => b"attributes of the cache",
+        CacheNode::LINE_SIZE_AT => b"line size of the cache",
+        CacheNode::ID_AT => b"ID of the cache",
+        _ => b"",
     }
 }
 
-fn memory(at: usize, out: &mut [u8], n: usize) -> usize
-    ensures { (result, out.new) ≡ laid out.old n (field_of format.Memory 0 at) }
+fn memory(at: usize) -> &'static [u8]
+    ensures { result.now ≡ field_of format.Memory 0 at }
 {
     match at {
-        MemoryAffinity::DOMAIN_AT => text::bytes(out, n, b"domain of the memory affinity"),
-        MemoryAffinity::BASE_AT => text::bytes(out, n, b"base of the memory affinity"),
-        MemoryAffinity::LENGTH_AT => text::bytes(out, n, b"length of the memory affinity"),
-        MemoryAffinity::FLAGS_AT => text::bytes(out, n, b"flags of the memory affinity"),
-        _ => nothing(out, n),
+        MemoryAffinity::DOMAIN_AT => b"domain of the memory affinity",
+        MemoryAffinity::BASE_AT => b"base of the memory affinity",
+        MemoryAffinity::LENGTH_AT => b"length of the memory affinity",
+        MemoryAffinity::FLAGS_AT => b"flags of the memory affinity",
+        _ => b"",
     }
 }
 
-fn acpi(at: usize, out: &mut [u8], n: usize) -> usize
-    ensures { (result, out.new) ≡ laid out.old n (field_of format.Acpi 0 at) }
+fn acpi(at: usize) -> &'static [u8]
+    ensures { result.now ≡ field_of format.Acpi 0 at }
 {
     match at {
-        GenericInitiator::DOMAIN_AT => text::bytes(out, n, b"domain of the generic initiator"),
-        GenericInitiator::HID_AT => text::bytes(out, n, b"hid of the generic initiator"),
-        GenericInitiator::UID_AT => text::bytes(out, n, b"uid of the generic initiator"),
-        GenericInitiator::ACPI_FLAGS_AT => text::bytes(out, n, b"flags of the generic initiator"),
-        _ => nothing(out, n),
+        GenericInitiator::DOMAIN_AT => b"domain of the generic initiator",
+        GenericInitiator::HID_AT => b"hid of the generic initiator",
+        GenericInitiator::UID_AT => b"uid of the generic initiator",
+        GenericInitiator::ACPI_FLAGS_AT => b"flags of the generic initiator",
+        _ => b"",
     }
 }
 
-fn pci(at: usize, out: &mut [u8], n: usize) -> usize
-    ensures { (result, out.new) ≡ laid out.old n (field_of format.Pci 0 at) }
+fn pci(at: usize) -> &'static [u8]
+    ensures { result.now ≡ field_of format.Pci 0 at }
 {
     match at {
-        GenericInitiator::DOMAIN_AT => text::bytes(out, n, b"domain of the generic initiator"),
-        GenericInitiator::SEGMENT_AT => text::bytes(out, n, b"segment of the generic initiator"),
-        GenericInitiator::BUS_AT => text::bytes(out, n, b"bus of the generic initiator"),
-        GenericInitiator::DEVICE_AT => text::bytes(out, n, b"device of the generic initiator"),
-        GenericInitiator::FUNCTION_AT => text::bytes(out, n, b"function of the generic initiator"),
-        GenericInitiator::PCI_FLAGS_AT => text::bytes(out, n, b"flags of the generic initiator"),
-        _ => nothing(out, n),
+        GenericInitiator::DOMAIN_AT => b"domain of the generic initiator",
+        GenericInitiator::SEGMENT_AT => b"segment of the generic initiator",
+        GenericInitiator::BUS_AT => b"bus of the generic initiator",
+        GenericInitiator::DEVICE_AT => b"device of the generic initiator",
+        GenericInitiator::FUNCTION_AT => b"function of the generic initiator",
+        GenericInitiator::PCI_FLAGS_AT => b"flags of the generic initiator",
+        _ => b"",
     }
 }
 
-fn rintc(at: usize, out: &mut [u8], n: usize) -> usize
-    ensures { (result, out.new) ≡ laid out.old n (field_of format.Rintc 0 at) }
+fn rintc(at: usize) -> &'static [u8]
+    ensures { result.now ≡ field_of format.Rintc 0 at }
 {
     match at {
-        RintcAffinity::DOMAIN_AT => text::bytes(out, n, b"domain of the RINTC affinity"),
-        RintcAffinity::UID_AT => text::bytes(out, n, b"uid of the RINTC affinity"),
-        RintcAffinity::FLAGS_AT => text::bytes(out, n, b"flags of the RINTC affinity"),
-        RintcAffinity::CLOCK_DOMAIN_AT => text::bytes(
-            out,
-            n,
-            b"clock domain of the RINTC affinity",
-        ),
-        _ => nothing(out, n),
+        RintcAffinity::DOMAIN_AT => b"domain of the RINTC affinity",
+        RintcAffinity::UID_AT => b"uid of the RINTC affinity",
+        RintcAffinity::FLAGS_AT => b"flags of the RINTC affinity",
+        RintcAffinity::CLOCK_DOMAIN_AT => b"clock domain of the RINTC affinity",
+        _ => b"",
     }
 }
 
-fn domain(at: usize, out: &mut [u8], n: usize) -> usize
-    ensures { (result, out.new) ≡ laid out.old n (field_of format.Domain 0 at) }
+fn domain(at: usize) -> &'static [u8]
+    ensures { result.now ≡ field_of format.Domain 0 at }
 {
     match at {
-        MemoryProximityDomain::INITIATOR_AT => text::bytes(
-            out,
-            n,
-            b"initiator of the proximity domain",
-        ),
-        MemoryProximityDomain::MEMORY_AT => text::bytes(out, n, b"memory of the proximity domain"),
-        _ => nothing(out, n),
+        MemoryProximityDomain::INITIATOR_AT => b"initiator of the proximity domain",
+        MemoryProximityDomain::MEMORY_AT => b"memory of the proximity domain",
+        _ => b"",
     }
 }
 
-fn matrix(width: Width, at: usize, out: &mut [u8], n: usize) -> usize
-    ensures { (result, out.new) ≡ laid out.old n (field_of (format.Matrix (meant_width width)) 0 at) }
+fn matrix(width: Width, at: usize) -> &'static [u8]
+    ensures { result.now ≡ field_of (format.Matrix (meant_width width)) 0 at }
 {
     // its place goes by the width: no constant for an arm
     if at == SystemLocality::targets_at(width) {
-        return text::bytes(out, n, b"targets of the matrix");
+        return b"targets of the matrix";
     }
     match at {
-        SystemLocality::FLAGS_AT => text::bytes(out, n, b"flags of the matrix"),
-        SystemLocality::DATA_TYPE_AT => text::bytes(out, n, b"data type of the matrix"),
-        SystemLocality::TRANSFER_SIZE_AT => text::bytes(out, n, b"transfer size of the matrix"),
-        SystemLocality::BASE_UNIT_AT => text::bytes(out, n, b"base unit of the matrix"),
-        SystemLocality::INITIATORS_AT => text::bytes(out, n, b"initiators of the matrix"),
-        _ => nothing(out, n),
+        SystemLocality::FLAGS_AT => b"flags of the matrix",
+        SystemLocality::DATA_TYPE_AT => b"data type of the matrix",
+        SystemLocality::TRANSFER_SIZE_AT => b"transfer size of the matrix",
+        SystemLocality::BASE_UNIT_AT => b"base unit of the matrix",
+        SystemLocality::INITIATORS_AT => b"initiators of the matrix",
+        _ => b"",
     }
 }
 
-fn initiator(width: Width, at: usize, out: &mut [u8], n: usize) -> usize
-    ensures { (result, out.new) ≡ laid out.old n (field_of (format.Initiator (meant_width width)) 0 at) }
+// Of the two sides of a matrix the words differ, each as a whole: one function for both would be told all four.
+fn initiator(width: Width, at: usize) -> &'static [u8]
+    ensures { result.now ≡ field_of (format.Initiator (meant_width width)) 0 at }
 {
     if at == Value::INDEX_AT {
-        return text::bytes(out, n, b"index of the initiator value");
+        return b"index of the initiator value";
     }
     if at == Value::value_at(width) {
-        return text::bytes(out, n, b"value of the initiator value");
+        return b"value of the initiator value";
     }
-    nothing(out, n)
+    b""
 }
 
-fn target(width: Width, at: usize, out: &mut [u8], n: usize) -> usize
-    ensures { (result, out.new) ≡ laid out.old n (field_of (format.Target (meant_width width)) 0 at) }
+fn target(width: Width, at: usize) -> &'static [u8]
+    ensures { result.now ≡ field_of (format.Target (meant_width width)) 0 at }
 {
     if at == Value::INDEX_AT {
-        return text::bytes(out, n, b"index of the target value");
+        return b"index of the target value";
     }
     if at == Value::value_at(width) {
-        return text::bytes(out, n, b"value of the target value");
+        return b"value of the target value";
     }
-    nothing(out, n)
+    b""
 }
 
-fn cell(width: Width, at: usize, out: &mut [u8], n: usize) -> usize
-    ensures { (result, out.new) ≡ laid out.old n (field_of (format.Cell (meant_width width)) 0 at) }
+fn cell(width: Width, at: usize) -> &'static [u8]
+    ensures { result.now ≡ field_of (format.Cell (meant_width width)) 0 at }
 {
     if at == Cell::INITIATOR_AT {
-        return text::bytes(out, n, b"initiator of the cell");
+        return b"initiator of the cell";
     }
     if at == Cell::target_at(width) {
-        return text::bytes(out, n, b"target of the cell");
+        return b"target of the cell";
     }
     if at == Cell::value_at(width) {
-        return text::bytes(out, n, b"value of the cell");
+        return b"value of the cell";
     }
-    nothing(out, n)
+    b""
 }
 
-fn side(at: usize, out: &mut [u8], n: usize) -> usize
-    ensures { (result, out.new) ≡ laid out.old n (field_of format.Side 0 at) }
+fn side(at: usize) -> &'static [u8]
+    ensures { result.now ≡ field_of format.Side 0 at }
 {
     match at {
-        MemorySideCache::DOMAIN_AT => text::bytes(out, n, b"domain of the side cache"),
-        MemorySideCache::SIZE_AT => text::bytes(out, n, b"size of the side cache"),
-        MemorySideCache::ATTRIBUTES_AT => text::bytes(out, n, b"attributes of the side cache"),
-        _ => nothing(out, n),
-    }
-}
-
-fn handle(at: usize, out: &mut [u8], n: usize) -> usize
-    ensures { (result, out.new) ≡ laid out.old n (field_of format.Handle 0 at) }
-{
-    match at {
-        SmbiosHandle::HANDLE_AT => text::bytes(out, n, b"handle of the SMBIOS handle"),
-        _ => nothing(out, n),
+        MemorySideCache::DOMAIN_AT => b"domain of the side cache",
+        MemorySideCache::SIZE_AT => b"size of the side cache",
+        MemorySideCache::ATTRIBUTES_AT => b"attributes of the side cache",
+        _ => b"",
     }
 }
 
-fn bridge(at: usize, out: &mut [u8], n: usize) -> usize
-    ensures { (result, out.new) ≡ laid out.old n (field_of format.Bridge 0 at) }
+fn handle(at: usize) -> &'static [u8]
+    ensures { result.now ≡ field_of format.Handle 0 at }
 {
     match at {
-        CxlHostBridge::UID_AT => text::bytes(out, n, b"uid of the CXL host bridge"),
-        CxlHostBridge::VERSION_AT => text::bytes(out, n, b"version of the CXL host bridge"),
-        CxlHostBridge::BASE_AT => text::bytes(out, n, b"base of the CXL host bridge"),
-        _ => nothing(out, n),
+        SmbiosHandle::HANDLE_AT => b"handle of the SMBIOS handle",
+        _ => b"",
     }
 }
 
-fn window(at: usize, out: &mut [u8], n: usize) -> usize
-    ensures { (result, out.new) ≡ laid out.old n (field_of format.Window 0 at) }
+fn bridge(at: usize) -> &'static [u8]
+    ensures { result.now ≡ field_of format.Bridge 0 at }
 {
     match at {
-        CxlFixedMemory::BASE_AT => text::bytes(out, n, b"base of the CXL window"),
-        CxlFixedMemory::SIZE_AT => text::bytes(out, n, b"size of the CXL window"),
-        CxlFixedMemory::WAYS_AT => text::bytes(out, n, b"ways of the CXL window"),
-        CxlFixedMemory::ARITHMETIC_AT => text::bytes(out, n, b"arithmetic of the CXL window"),
-        CxlFixedMemory::GRANULARITY_AT => text::bytes(out, n, b"granularity of the CXL window"),
-        CxlFixedMemory::RESTRICTIONS_AT => text::bytes(out, n, b"restrictions of the CXL window"),
-        CxlFixedMemory::QTG_AT => text::bytes(out, n, b"QTG of the CXL window"),
-        _ => nothing(out, n),
+        CxlHostBridge::UID_AT => b"uid of the CXL host bridge",
+        CxlHostBridge::VERSION_AT => b"version of the CXL host bridge",
+        CxlHostBridge::BASE_AT => b"base of the CXL host bridge",
+        _ => b"",
     }
 }
 
-fn window_target(at: usize, out: &mut [u8], n: usize) -> usize
-    ensures { (result, out.new) ≡ laid out.old n (field_of format.WindowTarget 0 at) }
+fn window(at: usize) -> &'static [u8]
+    ensures { result.now ≡ field_of format.Window 0 at }
 {
     match at {
-        CxlTarget::UID_AT => text::bytes(out, n, b"uid of the target of a CXL window"),
-        _ => nothing(out, n),
+        CxlFixedMemory::BASE_AT => b"base of the CXL window",
+        CxlFixedMemory::SIZE_AT => b"size of the CXL window",
+        CxlFixedMemory::WAYS_AT => b"ways of the CXL window",
+        CxlFixedMemory::ARITHMETIC_AT => b"arithmetic of the CXL window",
+        CxlFixedMemory::GRANULARITY_AT => b"granularity of the CXL window",
+        CxlFixedMemory::RESTRICTIONS_AT => b"restrictions of the CXL window",
+        CxlFixedMemory::QTG_AT => b"QTG of the CXL window",
+        _ => b"",
     }
 }
 
-fn xor(at: usize, out: &mut [u8], n: usize) -> usize
-    ensures { (result, out.new) ≡ laid out.old n (field_of format.Xor 0 at) }
+fn window_target(at: usize) -> &'static [u8]
+    ensures { result.now ≡ field_of format.WindowTarget 0 at }
 {
     match at {
-        XorInterleaveMath::GRANULARITY_AT => text::bytes(out, n, b"granularity of the XOR maths"),
-        _ => nothing(out, n),
+        CxlTarget::UID_AT => b"uid of the target of a CXL window",
+        _ => b"",
     }
 }
 
-fn map(at: usize, out: &mut [u8], n: usize) -> usize
-    ensures { (result, out.new) ≡ laid out.old n (field_of format.Map 0 at) }
+fn xor(at: usize) -> &'static [u8]
+    ensures { result.now ≡ field_of format.Xor 0 at }
 {
     match at {
-        XorMap::MAP_AT => text::bytes(out, n, b"map of the XOR map"),
-        _ => nothing(out, n),
+        XorInterleaveMath::GRANULARITY_AT => b"granularity of the XOR maths",
+        _ => b"",
+    }
+}
+
+fn map(at: usize) -> &'static [u8]
+    ensures { result.now ≡ field_of format.Map 0 at }
+{
+    match at {
+        XorMap::MAP_AT => b"map of the XOR map",
+        _ => b"",
     }
 }
 
 // The field of a body of this kind that begins at a place.
-fn field_of(kind: Kind, at: usize, out: &mut [u8], n: usize) -> usize
-    ensures { (result, out.new) ≡ laid out.old n (field_of (meant_kind kind) 0 at) }
+fn field_of(kind: Kind, at: usize) -> &'static [u8]
+    ensures { result.now ≡ field_of (meant_kind kind) 0 at }
 {
     match kind {
-        Kind::Processor => processor(at, out, n),
-        Kind::Resource => resource(at, out, n),
-        Kind::Cache => cache(at, out, n),
-        Kind::Memory => memory(at, out, n),
-        Kind::Acpi => acpi(at, out, n),
-        Kind::Pci => pci(at, out, n),
-        Kind::Rintc => rintc(at, out, n),
-        Kind::Domain => domain(at, out, n),
-        Kind::Matrix => matrix(Width::Byte, at, out, n),
-        Kind::Initiator => initiator(Width::Byte, at, out, n),
-        Kind::Target => target(Width::Byte, at, out, n),
-        Kind::Cell => cell(Width::Byte, at, out, n),
-        Kind::Side => side(at, out, n),
-        Kind::Handle => handle(at, out, n),
-        Kind::Bridge => bridge(at, out, n),
-        Kind::Window => window(at, out, n),
-        Kind::WindowTarget => window_target(at, out, n),
-        Kind::Xor => xor(at, out, n),
-        Kind::Map => map(at, out, n),
-        Kind::WideMatrix => matrix(Width::Pair, at, out, n),
-        Kind::WideInitiator => initiator(Width::Pair, at, out, n),
-        Kind::WideTarget => target(Width::Pair, at, out, n),
-        Kind::WideCell => cell(Width::Pair, at, out, n),
+        Kind::Processor => processor(at),
+        Kind::Resource => resource(at),
+        Kind::Cache => cache(at),
+        Kind::Memory => memory(at),
+        Kind::Acpi => acpi(at),
+        Kind::Pci => pci(at),
+        Kind::Rintc => rintc(at),
+        Kind::Domain => domain(at),
+        Kind::Matrix => matrix(Width::Byte, at),
+        Kind::Initiator => initiator(Width::Byte, at),
+        Kind::Target => target(Width::Byte, at),
+        Kind::Cell => cell(Width::Byte, at),
+        Kind::Side => side(at),
+        Kind::Handle => handle(at),
+        Kind::Bridge => bridge(at),
+        Kind::Window => window(at),
+        Kind::WindowTarget => window_target(at),
+        Kind::Xor => xor(at),
+        Kind::Map => map(at),
+        Kind::WideMatrix => matrix(Width::Pair, at),
+        Kind::WideInitiator => initiator(Width::Pair, at),
+        Kind::WideTarget => target(Width::Pair, at),
+        Kind::WideCell => cell(Width::Pair, at),
     }
 }
 
 // ---- words
 
-// The words for the field that begins at a place of the record whose kind byte stands at `at`.
-fn in_record(kind: Kind, at: usize, place: usize, out: &mut [u8], n: usize) -> usize
-    ensures { (result, out.new) ≡ laid out.old n (record_words place (some (meant_kind kind, at))) }
+// Lays the words for a field and the place of its record; nothing of no field.
+fn lay(field: &[u8], at: usize, text: &mut Text)
+    ensures { text.new ≡ with text.old (words field.now at) }
 {
-    if place <= at {
-        return nothing(out, n);
+    if field.is_empty() {
+        return;
     }
-    let mut m = field_of(kind, place - at - 1, out, n);
-    // nothing was laid: no field begins there, or there is no room
-    if m == n {
-        return m;
-    }
-    m = text::bytes(out, m, b" at");
-    text::spaced(out, m, at as u64)
+    text.bytes(field);
+    text.bytes(b" at");
+    text.spaced(at as u64);
 }
 
-// The record that holds a place: its kind, and where it begins.
+// A record that holds a place: its kind, and where it begins.
 #[derive(Clone, Copy)]
-enum Held {
-    By(Kind, usize),
-    Nothing,
+struct Held {
+    kind: Kind,
+    at: usize,
 }
 
-// Of the records behind the head.
-fn holder(recipe: &[u8], table: Table, place: usize) -> Held
+impl Held {
+    // The field that begins at a place of the record; none does before its body.
+    fn field(self, place: usize) -> &'static [u8]
+        ensures { result.now ≡ field_of (meant_kind self.kind) (self.at + 1) place }
+    {
+        if place <= self.at {
+            return b"";
+        }
+        field_of(self.kind, place - self.at - 1)
+    }
+}
+
+// The record behind the head that holds a place.
+fn holder(recipe: &[u8], table: Table, place: usize) -> Option<Held>
     ensures { held_by result ≡ holder place (cut (meant table) 0 28 (drop 28 recipe.now)) }
 {
     let mut at = recipe::HEAD_LEN;
     while at < recipe.len() {
-        let Named::As(kind) = recipe::kind_of(table, recipe[at]) else {
-            return Held::Nothing;
+        let Ok(kind) = recipe::kind_of(table, recipe[at]) else {
+            return None;
         };
         let end = at + 1 + kind.body_len();
         if place < end {
-            return Held::By(kind, at);
+            return Some(Held { kind, at });
         }
         at = end;
     }
-    Held::Nothing
+    None
 }
 
-// The words for the field that begins at a place behind the head.
-#[tactic(auto, unfolding(crate::specs::Words::record_words))]
-fn behind_head(recipe: &[u8], table: Table, place: usize, out: &mut [u8], n: usize) -> usize
-    ensures { (result, out.new) ≡ laid out.old n (record_words place (holder place (cut (meant table) 0 28 (drop 28 recipe.now)))) }
+// Lays the words for the field that begins at a place behind the head.
+#[tactic(auto, using(text::proofs::Texts::with_none), unfolding(crate::specs::Words::record_words))]
+fn behind_head(recipe: &[u8], table: Table, place: usize, text: &mut Text)
+    ensures { text.new ≡ with text.old (record_words place (holder place (cut (meant table) 0 28 (drop 28 recipe.now)))) }
 {
     match holder(recipe, table, place) {
-        Held::By(kind, at) => in_record(kind, at, place, out, n),
-        Held::Nothing => nothing(out, n),
+        Some(held) => lay(held.field(place), held.at, text),
+        None => (),
     }
 }
 
-// The words for the field that begins at a place of the head.
-#[tactic(auto, unfolding(crate::specs::Words::head_words, crate::specs::Words::words, crate::specs::Words::of_the, format::specs::Listing::digits))]
-fn in_head(place: usize, out: &mut [u8], n: usize) -> usize
-    ensures { (result, out.new) ≡ laid out.old n (head_words place) }
+// Lays the words for the field that begins at a place of the head: only the table code can be bad.
+#[tactic(auto, using(text::proofs::Texts::with_none), unfolding(crate::specs::Words::head_words, crate::specs::Words::words, crate::specs::Words::of_the, format::specs::Listing::digits))]
+fn in_head(place: usize, text: &mut Text)
+    ensures { text.new ≡ with text.old (head_words place) }
 {
     if place != 1 + TableHeader::CODE_AT {
-        return nothing(out, n);
+        return;
     }
-    text::bytes(out, n, b"table code of the head at 0")
+    lay(b"table code of the head", 0, text);
 }
 
-// Lays the words for the field that begins at a place of a recipe, as `size of the cache at 28`; nothing where none does.
+// Lays the words for the field that begins at a place of a recipe; nothing where none does.
+fn find(recipe: &[u8], place: usize, text: &mut Text)
+    ensures { text.new ≡ with text.old (field_words recipe.now place) }
+{
+    if field::get::<u8>(recipe, 0) != TableHeader::KIND {
+        return;
+    }
+    if recipe.len() <= place {
+        return;
+    }
+    if place < recipe::HEAD_LEN {
+        return in_head(place, text);
+    }
+    match Table::of_code(field::get::<u8>(recipe, 1 + TableHeader::CODE_AT)) {
+        Some(table) => behind_head(recipe, table, place, text),
+        None => (),
+    }
+}
+
+// The same behind the n bytes that out is filled with, as `size of the cache at 28`. How far it is filled then.
 pub fn field(recipe: &[u8], place: usize, out: &mut [u8], n: usize) -> usize
     ensures { (result, out.new) ≡ laid out.old n (field_words recipe.now place) }
 {
-    if field::get_u8(recipe, 0) != TableHeader::KIND {
-        return nothing(out, n);
-    }
-    if recipe.len() <= place {
-        return nothing(out, n);
-    }
-    if place < recipe::HEAD_LEN {
-        return in_head(place, out, n);
-    }
-    match Table::of_code(field::get_u8(recipe, 1 + TableHeader::CODE_AT)) {
-        Coded::Table(table) => behind_head(recipe, table, place, out, n),
-        Coded::Nothing => nothing(out, n),
-    }
+    let mut text = Text::behind(out, n);
+    find(recipe, place, &mut text);
+    text.len()
 }

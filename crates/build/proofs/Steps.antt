@@ -12,6 +12,7 @@ use lib.ListN.{length, take, drop, get_or, replicate, length-append, length-drop
 use lib.Seq.{length-take-le}
 use lib.Dec.{eqb}
 use borrow.Author.Tests.{eqb-false, le-ltb}
+use Rattle.std.specs.Prelude.{Option, Some, None}
 use Rattle.format.specs.Bytes.{Bytes, pick, at, le, part, over, sum, given}
 use Rattle.format.specs.Layout.{width, fields}
 use Rattle.format.specs.Table.{Table, pptt, front, limit}
@@ -38,7 +39,7 @@ use Rattle.writes.specs.declared.Change.{Change}
 use Rattle.writes.specs.declared.Found.{Found}
 use Rattle.writes.specs.Writes.{windowed, fields_in, change_of, wrote}
 use Rattle.build.specs.Write.{place_in}
-use Rattle.build.specs.Held.{head_in, front_of, Marked, Leads, Placed, Reaches, kept_with, Held, Ready, Builds}
+use Rattle.build.specs.Held.{head_in, front_of, Marked, Leads, Placed, Reaches, kept_with, Held, Ready, Ends, Builds}
 use Rattle.header.proofs.Laws.{front-small, front_long}
 use Rattle.build.proofs.Headers.{header-any, finished}
 use Rattle.build.proofs.Sums.{part-laid, sum-front, sum-moves}
@@ -61,14 +62,14 @@ older t (n ∷ ns) = omega arith
 -- ---- one record
 
 -- where the record stands that a reference names
-found_at : List ℕ → Reference → Found
+found_at : List ℕ → Option Reference → Found
 found_at out x = let p = place_in out (ordinal_in x) in record { processor = record { 0 = p }; cache = record { 0 = p } }
 
-placed_at : (out : List ℕ) (x : Reference) → Placed out x (found_at out x)
+placed_at : (out : List ℕ) (x : Option Reference) → Placed out x (found_at out x)
 unfolding found_at
-placed_at out (names.Processor h) = refl
-placed_at out (names.Cache h) = refl
-placed_at out names.Nothing = tt
+placed_at out (Some (names.Processor h)) = refl
+placed_at out (Some (names.Cache h)) = refl
+placed_at out None = tt
 
 -- bytes change, and bytes come: of the buffers, and of the sums
 module _ {xs fs : List ℕ} {t : Table} {ns more : List Node} {c : Change} {out out' : List ℕ} (h : Turned xs fs t ns more c out') (held : out ≡ over xs 0 (fs ++ records t ns))
@@ -313,6 +314,14 @@ module _ (xs r : List ℕ) (t : Table) (m : Meaning) (s : State) (out ms : List 
           let l : front t + sizes (drop 1 h.nodes) ≤ front t + sizes h.nodes = older t h.nodes in
           noted-keeps (Marked t (drop 1 h.nodes)) new shift (s.latest.nodes - 1) ms (omega (arith, h.place, h.short))
           (newest-marked t h.nodes s.latest.nodes s.latest.place h.counted (eqb-false s.latest.nodes 0 e) h.place) h.marked
+
+-- a pass may begin without any
+module _ {r : List ℕ} {t : Table} {s : State} {out ms : List ℕ} (n : ℕ) (e : ms ≡ replicate n 0) where
+  pub ready-unmarked : Ready r t s out [] → Ready r t s out ms
+  ready-unmarked y = record { start = y.start; meant = y.meant; holds = rw e (unmarked y.start r t y.meant s out [] y.holds n) }
+
+  pub ends-unmarked : {s' : State} {out' : List ℕ} → Ends r t s out ms s' out' → Ends r t s out [] s' out'
+  ends-unmarked ends xs m h = ends xs m (rw e (unmarked xs r t m s out [] h n))
 
 -- ---- the start
 

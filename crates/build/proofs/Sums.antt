@@ -126,9 +126,9 @@ came v l h q x y e f g = omega arith
 
 -- the bytes of a number come in the place of two that go
 pub sum-replaced : (bs : List ℕ) (p n v a b x y : ℕ) → p + 2 ≤ length bs → n < 65536
-    → a ≡ (v + check_of (at bs p)) % 256 → b ≡ (a + check_of (at bs (p + 1))) % 256 → x ≡ (b + n % 256) % 256 → y ≡ (x + n / 256) % 256
+    → a ≡ (v + check_of (at bs p)) % 256 → b ≡ (a + check_of (at bs (p + 1))) % 256 → x ≡ (b + n % 256) % 256 → y ≡ (x + n / 256 % 256) % 256
     → y ≡ (v + check_of (sum (part bs p 2)) + sum (le 2 n)) % 256
 unfolding le sum
 sum-replaced bs p n v a b x y h small ea eb ex ey =
     let e : n / 256 % 256 ≡ n / 256 = omega arith in
-    rw (sum-two bs p h, e) (came (v + check_of (at bs p + at bs (p + 1))) (n % 256) (n / 256) b x y (gone v (at bs p) (at bs (p + 1)) a b ea eb) ex ey)
+    rw (sum-two bs p h, e) (came (v + check_of (at bs p + at bs (p + 1))) (n % 256) (n / 256) b x y (gone v (at bs p) (at bs (p + 1)) a b ea eb) ex (rw e at ey))

@@ -1,15 +1,15 @@
 -- What the answers of the code are in the words of the format.
-use Rattle.std.specs.Prelude.{ℕ}
+use Rattle.std.specs.Prelude.{ℕ, Result, Ok, Err}
 use Rattle.format.specs.Bytes.{Answer, refused, given}
 use Rattle.recipe.specs.Answers.{number}
-use Rattle.build.specs.declared.Built.{Built}
-use Rattle.build.specs.declared.Built.TheVariants.{Length, NoRoom, Refused}
+use Rattle.build.specs.declared.BuildError.{BuildError}
+use Rattle.build.specs.declared.BuildError.TheVariants.{NoRoom, Refused}
 
 -- the length of the table, or a refusal's number and place; without room the place is the length that is needed
-abbrev pub shown : Built → Answer ℕ
-shown (Length n) = given n
-shown (NoRoom n) = refused 9 n
-shown (Refused f p) = refused (number f) p
+abbrev pub shown : Result ℕ BuildError → Answer ℕ
+shown (Ok n) = given n
+shown (Err (NoRoom n)) = refused 9 n
+shown (Err (Refused r)) = refused (number r.refusal) r.at
 
 -- the number of a refusal; 0 where a length is given
 abbrev pub number_in : Answer ℕ → ℕ

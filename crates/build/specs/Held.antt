@@ -1,5 +1,5 @@
 -- What the buffer and the numbers of the pass hold between two records: the table of the nodes so far, before its length and its checksum are written.
-use Rattle.std.specs.Prelude.{◌≡◌, ℕ, ◌+◌, ◌-◌, ◌%◌, ◌≤◌, List, ◌++◌, length, drop, eqb}
+use Rattle.std.specs.Prelude.{◌≡◌, ℕ, ◌+◌, ◌-◌, ◌%◌, ◌≤◌, List, ◌++◌, length, drop, eqb, Option, Some, None}
 use Rattle.format.specs.Bytes.{Bytes, pick, part, over, sum, given}
 use Rattle.format.specs.Table.{Table, pptt, Head, head_of, front, limit}
 use Rattle.format.specs.Form.{Width}
@@ -45,10 +45,10 @@ abbrev pub Leads : List ℕ → Mark → Type 0
 Leads bs m = (m.place ≤ limit) × (hops bs m.nodes 36 ≡ m.place)
 
 -- what was found is the place of the record that a reference names, or 0
-abbrev pub Placed : List ℕ → Reference → Found → Type 0
-Placed bs (names.Processor h) f = f.processor.0 ≡ place_in bs h.0
-Placed bs (names.Cache h) f = f.cache.0 ≡ place_in bs h.0
-Placed bs names.Nothing f = Unit
+abbrev pub Placed : List ℕ → Option Reference → Found → Type 0
+Placed bs (Some (names.Processor h)) f = f.processor.0 ≡ place_in bs h.0
+Placed bs (Some (names.Cache h)) f = f.cache.0 ≡ place_in bs h.0
+Placed bs None f = Unit
 
 -- hops lead to every record
 abbrev pub Reaches : List ℕ → List Node → Type 0

@@ -20,18 +20,27 @@ use header::{Checksum, Table, TableHeader};
 use hmat::{
     Cell, MemoryProximityDomain, MemorySideCache, SmbiosHandle, SystemLocality, Value, Width,
 };
-use marks::Mark;
+use marks::{Mark, Marks};
 use pptt::{CacheHandle, CacheNode, ProcessorHandle, ProcessorNode, Resource};
-use recipe::{Checked, Kind, Named, Reference, Refusal};
+use recipe::{Kind, Outline, Reference, Refusal, Refused};
 use srat::{GenericInitiator, MemoryAffinity, RintcAffinity};
 use writes::{Change, Found, Latest, State};
 
-// The length of the table, or a refusal: without room the length that is needed, else the place in the recipe.
-#[derive(Clone, Copy)]
-pub enum Built {
-    Length(usize),
+// Why no table is built: without room with the length that is needed, else as the recipe is refused.
+#[derive(Clone, Copy, Debug, PartialEq, Eq)]
+pub enum BuildError {
     NoRoom(usize),
-    Refused(Refusal, usize),
+    Refused(Refused),
+}
+
+impl From<Refused> for BuildError {
+    ghost use Rattle.build.specs.declared.BuildError.TheVariants.{Refused as refuses};
+
+    ghost from_gives = { λ refused error. error ≡ refuses refused };
+
+    fn from(refused: Refused) -> Self {
+        Self::Refused(refused)
+    }
 }
 
 // The number of a refusal.
@@ -53,26 +62,23 @@ fn number_of(refusal: Refusal) -> u8
     }
 }
 
-impl Built {
-    // The number of a refusal; 0 for a length.
+impl BuildError {
     pub fn number(self) -> u8
-        ensures { result ≡ number_in (shown self) }
+        ensures { result ≡ number_in (shown (Err self)) }
     {
         match self {
-            Built::Length(_) => 0,
-            Built::NoRoom(_) => 9,
-            Built::Refused(refusal, _) => number_of(refusal),
+            BuildError::NoRoom(_) => 9,
+            BuildError::Refused(refused) => number_of(refused.refusal),
         }
     }
 
-    // The place of a refusal; or the length.
+    // The place in the recipe; without room the length that is needed.
     pub fn place(self) -> usize
-        ensures { result ≡ place_of (shown self) }
+        ensures { result ≡ place_of (shown (Err self)) }
     {
         match self {
-            Built::Length(len) => len,
-            Built::NoRoom(len) => len,
-            Built::Refused(_, at) => at,
+            BuildError::NoRoom(len) => len,
+            BuildError::Refused(refused) => refused.at,
         }
     }
 }
@@ -85,41 +91,38 @@ fn reached(out: &[u8], from: Mark, i: u32) -> u32
     ensures { result ≡ hops out.now i 36 % 4294967296 }
 {
     let mut place = from.place as usize;
-    let mut nodes = from.nodes;
-    while nodes < i {
-        place += field::get_u8(out, place + pptt::LENGTH_AT) as usize;
-        nodes += 1;
+    for _ in from.nodes..i {
+        place += field::get::<u8>(out, place + pptt::LENGTH_AT) as usize;
     }
     (place % 4294967296) as u32
 }
 
 // The place of the record of an ordinal; 0 for none.
-fn place_of(out: &[u8], marks: &[u64], shift: u32, ordinal: u32) -> u32
-    requires { (ordinal ≡ 0 → ⊥) → Every (Leads out.now) marks.now }
+fn place_of<const N: usize>(out: &[u8], marks: &Marks<N>, ordinal: u32) -> u32
+    requires { (ordinal ≡ 0 → ⊥) → Every (Leads out.now) marks.now.slots }
     ensures { result ≡ place_in out.now ordinal }
 {
-    if ordinal == 0 {
+    let Some(i) = ordinal.checked_sub(1) else {
         return 0;
-    }
-    let i = ordinal - 1;
-    reached(out, Mark::first().toward_node(marks, shift, i), i)
+    };
+    reached(out, marks.toward_node(Mark::first(), i), i)
 }
 
 // The record that a record of the recipe names.
-fn look_for(out: &[u8], marks: &[u64], shift: u32, reference: Reference) -> Found
-    requires { (ordinal_in reference ≡ 0 → ⊥) → Every (Leads out.now) marks.now }
+fn look_for<const N: usize>(out: &[u8], marks: &Marks<N>, reference: Option<Reference>) -> Found
+    requires { (ordinal_in reference ≡ 0 → ⊥) → Every (Leads out.now) marks.now.slots }
     ensures { Placed out.now reference result }
 {
     match reference {
-        Reference::Processor(h) => Found {
-            processor: ProcessorHandle(place_of(out, marks, shift, h.0)),
+        Some(Reference::Processor(h)) => Found {
+            processor: ProcessorHandle(place_of(out, marks, h.0)),
             cache: CacheHandle::NONE,
         },
-        Reference::Cache(h) => Found {
+        Some(Reference::Cache(h)) => Found {
             processor: ProcessorHandle::NONE,
-            cache: CacheHandle(place_of(out, marks, shift, h.0)),
+            cache: CacheHandle(place_of(out, marks, h.0)),
         },
-        Reference::Nothing => Found {
+        None => Found {
             processor: ProcessorHandle::NONE,
             cache: CacheHandle::NONE,
         },
@@ -127,19 +130,18 @@ fn look_for(out: &[u8], marks: &[u64], shift: u32, reference: Reference) -> Foun
 }
 
 // Marks the newest record, whose place stays.
-fn keep(latest: Latest, marks: &mut [u64], shift: u32)
+fn keep<const N: usize>(latest: Latest, marks: &mut Marks<N>)
     requires { latest.place ≤ limit }
-    ensures { marks.new ≡ kept_with latest shift marks.old }
+    ensures { marks.new.slots ≡ kept_with latest marks.old.shift marks.old.slots }
 {
-    if latest.nodes == 0 {
+    let Some(nodes) = latest.nodes.checked_sub(1) else {
         return;
-    }
-    let nodes = latest.nodes - 1;
+    };
     let mark = Mark {
         nodes,
         place: latest.place as u32,
     };
-    mark.note(marks, shift, nodes as usize);
+    marks.note(mark, nodes as usize);
 }
 
 // ---- one record
@@ -148,12 +150,7 @@ fn keep(latest: Latest, marks: &mut [u64], shift: u32)
 fn length_bytes(n: usize) -> [u8; 4]
     ensures { result ≡ le 4 n }
 {
-    [
-        (n % 256) as u8,
-        (n / 256 % 256) as u8,
-        (n / 256 / 256 % 256) as u8,
-        (n / 256 / 256 / 256 % 256) as u8,
-    ]
+    ((n % 4294967296) as u32).to_le_bytes()
 }
 
 // The sum without some bytes of the table, and with them.
@@ -161,16 +158,14 @@ fn without(out: &[u8], from: usize, len: usize, sum: Checksum) -> Checksum
     requires { from + len ≤ length out.now }
     ensures { result.value ≡ (sum.value + check_of (sum_of (part out.now from len))) % 256 }
 {
-    let end = from + len;
-    sum.delete(&out[from..end])
+    sum.delete(&out[from..from + len])
 }
 
 fn with(out: &[u8], from: usize, len: usize, sum: Checksum) -> Checksum
     requires { from + len ≤ length out.now }
     ensures { result.value ≡ (sum.value + sum_of (part out.now from len)) % 256 }
 {
-    let end = from + len;
-    sum.append(&out[from..end])
+    sum.append(&out[from..from + len])
 }
 
 // The sum with so many bytes more at the end of the table, and with the new length in place of the old.
@@ -178,9 +173,9 @@ fn with_more(out: &[u8], end: usize, more: usize, sum: Checksum) -> Checksum
     requires { end + more ≤ length out.now }
     ensures { result.value ≡ (sum.value + sum_of (part out.now end more) + check_of (sum_of (le 4 end)) + sum_of (le 4 (end + more))) % 256 }
 {
-    let sum = with(out, end, more, sum);
-    let sum = sum.delete(&length_bytes(end));
-    sum.append(&length_bytes(end + more))
+    with(out, end, more, sum)
+        .delete(&length_bytes(end))
+        .append(&length_bytes(end + more))
 }
 
 // The sum without the bytes that a record of a kind changes. Each kind says how many: the compiler makes no loop of so few.
@@ -190,33 +185,21 @@ fn before(kind: Kind, out: &[u8], change: Change, sum: Checksum) -> Checksum
 {
     let from = change.from;
     match kind {
-        Kind::Processor => sum,
         Kind::Resource => without(out, from, ProcessorNode::LEN, sum),
-        Kind::Cache => sum,
-        Kind::Memory => sum,
-        Kind::Acpi => sum,
-        Kind::Pci => sum,
-        Kind::Rintc => sum,
-        Kind::Domain => sum,
-        Kind::Matrix => sum,
-        Kind::Initiator => without(out, from, Value::LEN, sum),
-        Kind::Target => without(out, from, Value::LEN, sum),
-        Kind::Cell => without(out, from, Cell::LEN, sum),
-        Kind::Side => sum,
+        Kind::Initiator | Kind::Target | Kind::WideInitiator | Kind::WideTarget => {
+            without(out, from, Value::LEN, sum)
+        }
+        Kind::Cell | Kind::WideCell => without(out, from, Cell::LEN, sum),
         Kind::Handle => without(out, from, MemorySideCache::LEN, sum),
-        Kind::Bridge => sum,
-        Kind::Window => sum,
         Kind::WindowTarget => without(out, from, CxlTarget::LEN, sum),
-        Kind::Xor => sum,
         Kind::Map => without(out, from, XorInterleaveMath::LEN, sum),
-        Kind::WideMatrix => sum,
-        Kind::WideInitiator => without(out, from, Value::LEN, sum),
-        Kind::WideTarget => without(out, from, Value::LEN, sum),
-        Kind::WideCell => without(out, from, Cell::LEN, sum),
+        _ => sum,
     }
 }
 
-// The sum with what it has written there and at the end.
+// The sum with what it has written there and at the end. Each size of marks has a pass of
+// its own that calls it, and LLVM makes by itself only what is called once a part of its caller.
+#[inline(always)]
 fn after(kind: Kind, out: &[u8], change: Change, end: usize, sum: Checksum) -> Checksum
     requires { Changes (meant_kind kind) change × (change.from + change.len ≤ length out.now) × (end + change.more ≤ length out.now) }
     ensures { result.value ≡ (sum.value + sum_of (part out.now change.from change.len) + sum_of (part out.now end change.more) + check_of (sum_of (le 4 end)) + sum_of (le 4 (end + change.more))) % 256 }
@@ -230,31 +213,26 @@ fn after(kind: Kind, out: &[u8], change: Change, end: usize, sum: Checksum) -> C
         }
         Kind::Cache => with_more(out, end, CacheNode::LEN, sum),
         Kind::Memory => with_more(out, end, MemoryAffinity::LEN, sum),
-        Kind::Acpi => with_more(out, end, GenericInitiator::LEN, sum),
-        Kind::Pci => with_more(out, end, GenericInitiator::LEN, sum),
+        Kind::Acpi | Kind::Pci => with_more(out, end, GenericInitiator::LEN, sum),
         Kind::Rintc => with_more(out, end, RintcAffinity::LEN, sum),
         Kind::Domain => with_more(out, end, MemoryProximityDomain::LEN, sum),
-        Kind::Matrix => with_more(out, end, change.more, sum),
-        Kind::Initiator => with(out, from, Value::LEN, sum),
-        Kind::Target => with(out, from, Value::LEN, sum),
-        Kind::Cell => with(out, from, Cell::LEN, sum),
+        Kind::Matrix | Kind::WideMatrix | Kind::Window => with_more(out, end, change.more, sum),
+        Kind::Initiator | Kind::Target | Kind::WideInitiator | Kind::WideTarget => {
+            with(out, from, Value::LEN, sum)
+        }
+        Kind::Cell | Kind::WideCell => with(out, from, Cell::LEN, sum),
         Kind::Side => with_more(out, end, MemorySideCache::LEN, sum),
         Kind::Handle => {
             let sum = with(out, from, MemorySideCache::LEN, sum);
             with_more(out, end, SmbiosHandle::LEN, sum)
         }
         Kind::Bridge => with_more(out, end, CxlHostBridge::LEN, sum),
-        Kind::Window => with_more(out, end, change.more, sum),
         Kind::WindowTarget => with(out, from, CxlTarget::LEN, sum),
         Kind::Xor => with_more(out, end, XorInterleaveMath::LEN, sum),
         Kind::Map => {
             let sum = with(out, from, XorInterleaveMath::LEN, sum);
             with_more(out, end, XorMap::LEN, sum)
         }
-        Kind::WideMatrix => with_more(out, end, change.more, sum),
-        Kind::WideInitiator => with(out, from, Value::LEN, sum),
-        Kind::WideTarget => with(out, from, Value::LEN, sum),
-        Kind::WideCell => with(out, from, Cell::LEN, sum),
     }
 }
 
@@ -264,22 +242,26 @@ fn replace(out: &mut [u8], at: usize, value: u16, sum: Checksum) -> Checksum
     ensures out_after { out.new ≡ over out.old at (le 2 value) }
     ensures value_value { result.value ≡ (sum.value + check_of (sum_of (part out.old at 2)) + sum_of (le 2 value)) % 256 }
 {
-    let low = (value % 256) as u8;
-    let high = (value / 256) as u8;
-    let end = at + 2;
-    let window = &mut out[at..end];
+    let [low, high] = value.to_le_bytes();
+    let window = &mut out[at..at + 2];
     let old = sum.sub(window[0]).sub(window[1]);
-    field::put_u16(window, 0, value);
+    field::put(window, 0, value);
     old.add(low).add(high)
 }
 
 // Writes the next record of the recipe; the bytes that it changes leave the sum before, and come back after.
-fn step(recipe: &[u8], table: Table, out: &mut [u8], marks: &[u64], shift: u32, s: State) -> State
-    requires { (s.at < length recipe.now) × Ready recipe.now (meant table) s out.old marks.now }
+fn step<const N: usize>(
+    recipe: &[u8],
+    table: Table,
+    out: &mut [u8],
+    marks: &Marks<N>,
+    s: State,
+) -> State
+    requires { (s.at < length recipe.now) × Ready recipe.now (meant table) s out.old marks.now.slots }
     ensures { (s.at < result.at) × Goes recipe.now (meant table) s out.old result out.new }
 {
     let at = s.at;
-    let Named::As(kind) = recipe::kind_of(table, recipe[at]) else {
+    let Ok(kind) = recipe::kind_of(table, recipe[at]) else {
         return s;
     };
     let start = at + 1;
@@ -288,15 +270,13 @@ fn step(recipe: &[u8], table: Table, out: &mut [u8], marks: &[u64], shift: u32, 
     let change = writes::change_of(kind, bytes, s);
     let end = s.end + change.more;
     let old = before(kind, out, change, s.sum);
-    let found = look_for(out, marks, shift, kind.refers(bytes));
+    let found = look_for(out, marks, kind.refers(bytes));
     writes::put(kind, bytes, out, s, found, change.from);
-    let sum = after(kind, out, change, s.end, old);
-    let latest = change.latest;
     State {
         at: next,
         end,
-        latest,
-        sum,
+        latest: change.latest,
+        sum: after(kind, out, change, s.end, old),
     }
 }
 
@@ -370,27 +350,13 @@ fn put_run(recipe: &[u8], width: Width, out: &mut [u8], s: State) -> State
     );
     let kind = Cell::kind(width);
     let len = 1 + Cell::body_len(width);
-    let end = s.end;
     let mut at = s.at;
     let mut sum = s.sum;
-    while at < recipe.len() {
-        if recipe[at] != kind {
-            return State {
-                at,
-                end,
-                latest,
-                sum,
-            };
-        }
+    while at < recipe.len() && recipe[at] == kind {
         sum = put_cell(recipe, at, width, cells, targets, out, sum);
-        at = at + len;
+        at += len;
     }
-    State {
-        at,
-        end,
-        latest,
-        sum,
-    }
+    State { at, sum, ..s }
 }
 
 // The same of either width; no other table has any.
@@ -401,7 +367,7 @@ fn put_cells(recipe: &[u8], table: Table, out: &mut [u8], s: State) -> State
     let Table::Hmat = table else {
         return s;
     };
-    let width = match field::get_u8(recipe, s.at) {
+    let width = match field::get::<u8>(recipe, s.at) {
         Cell::KIND => Width::Byte,
         Cell::WIDE_KIND => Width::Pair,
         _ => return s,
@@ -410,28 +376,27 @@ fn put_cells(recipe: &[u8], table: Table, out: &mut [u8], s: State) -> State
 }
 
 // Writes the records of a recipe, from a state on, and marks them.
-fn put_records(
+fn put_records<const N: usize>(
     recipe: &[u8],
     table: Table,
     out: &mut [u8],
-    marks: &mut [u64],
-    shift: u32,
+    marks: &mut Marks<N>,
     first: State,
 ) -> State
-    requires { Ready recipe.now (meant table) first out.old marks.old }
-    ensures { (length recipe.now ≤ result.at) × Ends recipe.now (meant table) first out.old marks.old result out.new }
+    requires { Ready recipe.now (meant table) first out.old marks.old.slots }
+    ensures { (length recipe.now ≤ result.at) × Ends recipe.now (meant table) first out.old marks.old.slots result out.new }
 {
     let mut s = first;
     while s.at < recipe.len() {
-        let next = step(recipe, table, out, marks, shift, s);
-        keep(next.latest, marks, shift);
+        let next = step(recipe, table, out, marks, s);
+        keep(next.latest, marks);
         s = put_cells(recipe, table, out, next);
     }
     s
 }
 
-// The same with the marks of a table that is longer than others; most: how many records it may have. LLVM does not inline a function that
-// calls itself, so that no other table pays for this room; again is 0, since no slice has usize::MAX bytes, but LLVM does not know it.
+// The same with the marks of a table that is longer than others; most: how many records it may have. LLVM does not inline a function that calls itself, so that no other table
+// pays for this room; again is 0, since no slice has usize::MAX bytes, but LLVM does not know it.
 fn put_long(
     recipe: &[u8],
     table: Table,
@@ -446,70 +411,53 @@ fn put_long(
     if 0 < again {
         return put_long(recipe, table, out, most, first, again - 1);
     }
-    let mut marks = [0u64; marks::MOST];
-    put_records(
-        recipe,
-        table,
-        out,
-        &mut marks,
-        marks::spread(most, marks::MOST),
-        first,
-    )
+    let mut marks = Marks::<{ marks::MOST }>::none(most);
+    put_records(recipe, table, out, &mut marks, first)
 }
 
-// The same with marks of its own: as many as a table of so many bytes asks for where it has references, in a PPTT.
-fn put_all(recipe: &[u8], table: Table, out: &mut [u8], len: usize, first: State) -> State
-    requires { Ready recipe.now (meant table) first out.old [] }
-    ensures { (length recipe.now ≤ result.at) × Ends recipe.now (meant table) first out.old [] result out.new }
+// The same with as many marks as a table of so many bytes asks for where it has references, in a PPTT; elsewhere with one, which nothing asks for.
+fn put_all(recipe: &[u8], outline: Outline, out: &mut [u8], first: State) -> State
+    requires { Ready recipe.now (meant outline.table) first out.old [] }
+    ensures { (length recipe.now ≤ result.at) × Ends recipe.now (meant outline.table) first out.old [] result out.new }
 {
-    if let Table::Pptt = table {
-        let most = len / ProcessorNode::LEN;
-        if most < marks::FEW {
-            let mut few = [0u64; marks::FEW];
-            return put_records(recipe, table, out, &mut few, 0, first);
-        }
-        if marks::LONG < len {
-            return put_long(recipe, table, out, most, first, recipe.len() / usize::MAX);
-        }
-        let mut many = [0u64; marks::MANY];
-        return put_records(
-            recipe,
-            table,
-            out,
-            &mut many,
-            marks::spread(most, marks::MANY),
-            first,
-        );
+    let Outline { table, len } = outline;
+    let Table::Pptt = table else {
+        let mut one = Marks::<1>::none(0);
+        return put_records(recipe, table, out, &mut one, first);
+    };
+    let most = len / ProcessorNode::LEN;
+    if most < marks::FEW {
+        let mut few = Marks::<{ marks::FEW }>::none(most);
+        put_records(recipe, table, out, &mut few, first)
+    } else if len <= marks::LONG {
+        let mut many = Marks::<{ marks::MANY }>::none(most);
+        put_records(recipe, table, out, &mut many, first)
+    } else {
+        put_long(recipe, table, out, most, first, recipe.len() / usize::MAX)
     }
-    let mut none = [0u64; 0];
-    put_records(recipe, table, out, &mut none, 0, first)
 }
 
 // Writes the table of a recipe that builds.
-fn write(recipe: &[u8], table: Table, out: &mut [u8], len: usize)
-    requires { Builds recipe.now (meant table) (length out.old) }
+fn write(recipe: &[u8], outline: Outline, out: &mut [u8])
+    requires { Builds recipe.now (meant outline.table) (length out.old) }
     ensures { out.new ≡ over out.old 0 (table_of recipe.now) }
 {
-    let first = start(recipe, table, out);
-    let last = put_all(recipe, table, out, len, first);
+    let first = start(recipe, outline.table, out);
+    let last = put_all(recipe, outline, out, first);
     let sum = last.sum.value();
     TableHeader::set_length(out, last.end as u32);
     TableHeader::set_checksum(out, sum);
 }
 
 // Builds the table of a recipe; where it is refused, the buffer stays as it was.
-pub fn build(recipe: &[u8], out: &mut [u8]) -> Built
+pub fn build(recipe: &[u8], out: &mut [u8]) -> Result<usize, BuildError>
     ensures result_value { shown result ≡ build recipe.now (length out.old) }
     ensures out_after { out.new ≡ built recipe.now out.old }
 {
-    match recipe::check(recipe) {
-        Checked::Good(table, len) => {
-            if out.len() < len {
-                return Built::NoRoom(len);
-            }
-            write(recipe, table, out, len);
-            Built::Length(len)
-        }
-        Checked::Refused(refusal, at) => Built::Refused(refusal, at),
+    let outline = recipe::check(recipe)?;
+    if out.len() < outline.len {
+        return Err(BuildError::NoRoom(outline.len));
     }
+    write(recipe, outline, out);
+    Ok(outline.len)
 }

@@ -4,10 +4,9 @@
 // than 134,217,728 bytes, and every table has room.
 #![tactic(auto)]
 
-use build::Built;
+use build::BuildError;
+use recipe::Refusal;
 use std::io;
-
-const BAD_FIELD: u8 = 5;
 
 // The field that begins at a place of a recipe, if one does. No words are longer than the room here.
 fn blame(rt: &HostRuntime, recipe: &[u8], place: usize) -> io::Result<()> {
@@ -20,56 +19,56 @@ fn blame(rt: &HostRuntime, recipe: &[u8], place: usize) -> io::Result<()> {
     rt.stderr().write_all(b"\n")
 }
 
-fn refuse(rt: &HostRuntime, recipe: &[u8], number: u8, place: usize) -> io::Result<()> {
-    prints::refuse(rt, number as u64, place as u64)?;
-    if number == BAD_FIELD {
-        blame(rt, recipe, place)?;
+fn refuse(rt: &HostRuntime, recipe: &[u8], error: BuildError) -> io::Result<()> {
+    prints::refuse(rt, error.number() as u64, error.place() as u64)?;
+    match error {
+        BuildError::Refused(r) if r.refusal == Refusal::BadField => blame(rt, recipe, r.at),
+        _ => Ok(()),
     }
-    Ok(())
 }
 
-fn show(rt: &HostRuntime, answer: Built, recipe: &[u8], table: &[u8]) -> io::Result<()> {
-    if let Built::Length(n) = answer {
-        prints::write_first(rt, table, n)
-    } else {
-        refuse(rt, recipe, answer.number(), answer.place())
+fn show(
+    rt: &HostRuntime,
+    answer: Result<usize, BuildError>,
+    recipe: &[u8],
+    table: &[u8],
+) -> io::Result<()> {
+    match answer {
+        Ok(n) => prints::write_first(rt, table, n),
+        Err(error) => refuse(rt, recipe, error),
     }
 }
 
 // A long recipe, of which the first bytes are read already, or one of a long table: in large rooms, apart from main's (see prints::never).
 fn build_large(rt: &HostRuntime, first: &[u8], depth: u64) -> io::Result<()> {
-    let mut recipe = prints::large_recipe();
+    let mut recipe = prints::room::<{ prints::LARGE_RECIPE }>();
     let n = prints::read_on(rt, first, &mut recipe)?;
     if n < recipe.len() {
-        let mut table = prints::large_table();
+        let mut table = prints::room::<{ prints::LARGE_TABLE }>();
         let given = field::part(&recipe, 0, n);
         let answer = build::build(given, &mut table);
         show(rt, answer, given, &table)?;
     } else {
         eprintln!(rt; "the recipe has 134217728 bytes or more")?;
     }
-    if prints::never(rt) {
-        if 0 < depth {
-            build_large(rt, first, depth - 1)?;
-        }
+    if 0 < depth && prints::never(rt) {
+        build_large(rt, first, depth - 1)?;
     }
     Ok(())
 }
 
 // A recipe that is read to its end.
 fn build(rt: &HostRuntime, recipe: &[u8]) -> io::Result<()> {
-    let mut table = prints::room();
+    let mut table = prints::room::<{ prints::ROOM }>();
     let answer = build::build(recipe, &mut table);
-    if let Built::NoRoom(_) = answer {
-        if prints::has_stack(rt) {
-            return build_large(rt, recipe, 1);
-        }
+    if matches!(answer, Err(BuildError::NoRoom(_))) && prints::has_stack(rt) {
+        return build_large(rt, recipe, 1);
     }
     show(rt, answer, recipe, &table)
 }
 
 fn main(rt: HostRuntime) -> io::Result<()> {
-    let mut recipe = prints::room();
+    let mut recipe = prints::room::<{ prints::ROOM }>();
     let n = prints::read_input(&rt, &mut recipe)?;
     if n < recipe.len() {
         build(&rt, &recipe[..n])

@@ -2,6 +2,8 @@
 // Each is shown whole, read out, and built again from that recipe: the bytes have to be the same.
 #![tactic(auto)]
 
+ghost use Rattle.std.specs.Prelude.{◌^◌, ◌<◌, length};
+
 use cedt::{
     CxlFixedMemory, CxlHostBridge, CxlTarget, CxlVersion, InterleaveArithmetic,
     InterleaveGranularity, InterleaveWays, XorInterleaveMath, XorMap,
@@ -18,7 +20,7 @@ use pptt::{
 use srat::{GenericInitiator, Handle, MemoryAffinity, RintcAffinity};
 use std::io;
 
-// Room for each of the tables.
+// Room for what is read out of a table and built again.
 const ROOM: usize = 1024;
 
 // ---- PPTT: a second-level cache behind a third-level one, a socket, and a core with both caches
@@ -200,11 +202,13 @@ fn links(out: &mut [u8]) {
 
 // ---- the whole table
 
-// Writes header and front of a table of n bytes whose records stand, with the checksum over all of it.
-fn finish(table: Table, n: u32, out: &mut [u8]) {
+// Writes header and front of a table whose records stand, with the checksum over all of it.
+fn finish(table: Table, out: &mut [u8])
+    requires { length out.old < 2 ^ 32 }
+{
     let head = TableHeader::new(
         table,
-        n,
+        out.len() as u32,
         *b"CLOUDH",
         *b"ISPALMUT",
         1,
@@ -213,25 +217,28 @@ fn finish(table: Table, n: u32, out: &mut [u8]) {
     );
     head.put(out, 0);
     header::put_front(table, out);
-    let sum = Checksum::default().append(field::part(out, 0, n as usize));
+    let sum = Checksum::default().append(out);
     head.checksum(sum.value()).put(out, 0);
 }
 
-fn number(rt: &impl Print, n: usize) -> io::Result<()> {
-    print!(rt; " {n}")
+// Whether a table comes back from the recipe that is read out of it.
+fn comes_back(table: &[u8]) -> bool {
+    let mut recipe = [0u8; ROOM];
+    let mut again = [0u8; ROOM];
+    let Ok(n) = readout::read_out(table, &mut recipe) else {
+        return false;
+    };
+    let Ok(m) = build::build(field::part(&recipe, 0, n), &mut again) else {
+        return false;
+    };
+    field::part(&again, 0, m) == table
 }
 
 // A table, shown; the sum of its bytes; then its recipe, built again.
 fn trip(rt: &impl Print, table: &[u8]) -> io::Result<()> {
-    let mut recipe = [0u8; ROOM];
-    let mut again = [0u8; ROOM];
     shows::show(rt, table, false)?;
-    rt.write_all(b"sum")?;
-    number(rt, Checksum::default().append(table).raw_value() as usize)?;
-    rt.write_all(b"\n")?;
-    let r = readout::read_out(table, &mut recipe);
-    let b = build::build(field::part(&recipe, 0, r.place()), &mut again);
-    if !frames::same(field::part(&again, 0, b.place()), table) {
+    println!(rt; "sum {}", Checksum::default().append(table).raw_value())?;
+    if !comes_back(table) {
         return println!(rt; "another table");
     }
     println!(rt; "read out and built again: the same")
@@ -239,36 +246,41 @@ fn trip(rt: &impl Print, table: &[u8]) -> io::Result<()> {
 
 // What the types say of their records' lengths.
 fn lengths(rt: &impl Print) -> io::Result<()> {
-    rt.write_all(b"lengths")?;
-    number(rt, ProcessorNode::get(&[0; 20], 0).len())?;
-    number(rt, CacheNode::len())?;
-    number(rt, MemoryAffinity::len())?;
-    number(rt, GenericInitiator::len())?;
-    number(rt, RintcAffinity::len())?;
-    number(rt, MemoryProximityDomain::len())?;
-    number(rt, CxlHostBridge::len())?;
-    number(rt, TableHeader::len())?;
-    number(rt, header::limit())?;
-    rt.write_all(b"\n")
+    let lengths = [
+        ProcessorNode::get(&[0; 20], 0).len(),
+        CacheNode::len(),
+        MemoryAffinity::len(),
+        GenericInitiator::len(),
+        RintcAffinity::len(),
+        MemoryProximityDomain::len(),
+        CxlHostBridge::len(),
+        TableHeader::len(),
+        header::limit(),
+    ];
+    print!(rt; "lengths")?;
+    for n in lengths {
+        print!(rt; " {n}")?;
+    }
+    println!(rt)
 }
 
 fn main(rt: HostRuntime) -> io::Result<()> {
-    let mut pptt = [0u8; ROOM];
-    let mut srat = [0u8; ROOM];
-    let mut hmat = [0u8; ROOM];
-    let mut cedt = [0u8; ROOM];
+    let mut pptt = [0u8; PPTT_LEN];
+    let mut srat = [0u8; SRAT_LEN];
+    let mut hmat = [0u8; HMAT_LEN];
+    let mut cedt = [0u8; CEDT_LEN];
     lengths(&rt)?;
     caches(&mut pptt);
     processors(&mut pptt);
-    finish(Table::Pptt, PPTT_LEN as u32, &mut pptt);
-    trip(&rt, field::part(&pptt, 0, PPTT_LEN))?;
+    finish(Table::Pptt, &mut pptt);
+    trip(&rt, &pptt)?;
     affinities(&mut srat);
-    finish(Table::Srat, SRAT_LEN as u32, &mut srat);
-    trip(&rt, field::part(&srat, 0, SRAT_LEN))?;
+    finish(Table::Srat, &mut srat);
+    trip(&rt, &srat)?;
     localities(&mut hmat);
-    finish(Table::Hmat, HMAT_LEN as u32, &mut hmat);
-    trip(&rt, field::part(&hmat, 0, HMAT_LEN))?;
+    finish(Table::Hmat, &mut hmat);
+    trip(&rt, &hmat)?;
     links(&mut cedt);
-    finish(Table::Cedt, CEDT_LEN as u32, &mut cedt);
-    trip(&rt, field::part(&cedt, 0, CEDT_LEN))
+    finish(Table::Cedt, &mut cedt);
+    trip(&rt, &cedt)
 }

@@ -1,131 +1,44 @@
 // Answers calls line by line: a request on standard input, its answer on standard output (docs/CALLS.md).
 #![tactic(auto)]
 
-ghost use Rattle.std.specs.Prelude.{◌≡◌, length, take};
-ghost use Rattle.format.specs.Bytes.{pick};
+ghost use Rattle.std.specs.Prelude.{◌≡◌, length, take, IsNone, IfSome};
 ghost use Rattle.text.specs.Text.{laid};
 ghost use Rattle.answers.specs.Lines.{too_long, answer_to};
 
 use std::io;
 use std::io::{Input, Read};
 
-// Where the program stands: bytes of the line so far, and whether there were more than there is room for.
-#[derive(Clone, Copy)]
-struct Place {
-    held: usize,
-    long: bool,
-}
-
-// The answer to the line so far.
-fn reply(p: Place, line: &[u8], given: &mut [u8], lent: &mut [u8], text: &mut [u8]) -> usize
-    ensures { (result, text.new) ≡ laid text.old 0 (pick p.long too_long (answer_to (length given.old) (length lent.old) (take p.held line.now))) }
+// The answer to a line of so many bytes, or to one for which there is no room.
+fn reply(
+    held: Option<usize>,
+    line: &[u8],
+    given: &mut [u8],
+    lent: &mut [u8],
+    text: &mut [u8],
+) -> usize
+    ensures long { IsNone held → (result, text.new) ≡ laid text.old 0 too_long }
+    ensures answered { IfSome held (λ n. (result, text.new) ≡ laid text.old 0 (answer_to (length given.old) (length lent.old) (take n line.now))) }
 {
-    if p.long {
-        return answers::too_long(text);
+    match held {
+        None => answers::too_long(text),
+        Some(n) => answers::answer(frames::first(line, n), given, lent, text),
     }
-    answers::answer(frames::first(line, p.held), given, lent, text)
 }
 
-// The end of a line: its answer is written at once.
-fn finish(
-    rt: &impl Print,
-    p: Place,
-    line: &[u8],
-    given: &mut [u8],
-    lent: &mut [u8],
-    text: &mut [u8],
-) -> io::Result<Place> {
-    let n = reply(p, line, given, lent, text);
-    prints::write_first(rt, text, n)?;
-    Ok(Place {
-        held: 0,
-        long: false,
-    })
-}
-
-// One byte more.
-fn take(
-    rt: &impl Print,
-    p: Place,
-    b: u8,
-    line: &mut [u8],
-    given: &mut [u8],
-    lent: &mut [u8],
-    text: &mut [u8],
-) -> io::Result<Place> {
-    let held = p.held;
-    if b == b'\n' {
-        return finish(rt, p, line, given, lent, text);
+// One byte more: how many the line has then, where there is room for them.
+fn take(line: &mut [u8], held: Option<usize>, b: u8) -> Option<usize> {
+    match held {
+        Some(n) if n < line.len() => {
+            line[n] = b;
+            Some(n + 1)
+        }
+        _ => None,
     }
-    if held < line.len() {
-        line[held] = b;
-        return Ok(Place {
-            held: held + 1,
-            long: p.long,
-        });
-    }
-    Ok(Place { held, long: true })
 }
 
-// All bytes of a chunk.
-fn take_all(
-    rt: &impl Print,
-    start: Place,
-    chunk: &[u8],
-    line: &mut [u8],
-    given: &mut [u8],
-    lent: &mut [u8],
-    text: &mut [u8],
-) -> io::Result<Place> {
-    let mut p = start;
-    let mut i = 0;
-    while i < chunk.len() {
-        p = take(rt, p, chunk[i], line, given, lent, text)?;
-        i += 1;
-    }
-    Ok(p)
-}
-
-// What a turn of the program leaves.
-#[derive(Clone, Copy)]
-enum Turn {
-    More(Place),
-    End(Place),
-}
-
-// Reads once, and answers the lines that ended.
-fn listen(
-    rt: &(impl Input + Print),
-    p: Place,
-    line: &mut [u8],
-    given: &mut [u8],
-    lent: &mut [u8],
-    text: &mut [u8],
-) -> io::Result<Turn> {
-    let mut chunk = [0u8; 65536];
-    let n = rt.reader().read(&mut chunk)?;
-    if n == 0 {
-        return Ok(Turn::End(p));
-    }
-    Ok(Turn::More(take_all(rt, p, &chunk[..n], line, given, lent, text)?))
-}
-
-// A last line may lack its newline.
-fn last(
-    rt: &impl Print,
-    p: Place,
-    line: &[u8],
-    given: &mut [u8],
-    lent: &mut [u8],
-    text: &mut [u8],
-) -> io::Result<()> {
-    if 0 < p.held {
-        finish(rt, p, line, given, lent, text)?;
-    }
-    Ok(())
-}
-
-// Turn by turn. Nothing says that the input ends: the turns are counted, from a number that no run uses up.
+// Line by line: each is answered where it ends, at once, and a last one may lack its newline. The four rooms are no struct: lending one field
+// behind a reference while another is lent is not covered by proofs. Nothing says that the input ends: reads are counted, up to a number that
+// no run reaches.
 fn serve(
     rt: &(impl Input + Print),
     line: &mut [u8],
@@ -133,41 +46,48 @@ fn serve(
     lent: &mut [u8],
     text: &mut [u8],
 ) -> io::Result<()> {
-    let mut p = Place {
-        held: 0,
-        long: false,
-    };
-    let mut turns = u64::MAX;
-    while 0 < turns {
-        match listen(rt, p, line, given, lent, text)? {
-            Turn::More(q) => p = q,
-            Turn::End(q) => return last(rt, q, line, given, lent, text),
+    let mut held = Some(0);
+    let mut chunk = [0u8; 65536];
+    for _ in 0..u64::MAX {
+        let n = rt.reader().read(&mut chunk)?;
+        if n == 0 {
+            break;
         }
-        turns -= 1;
+        for b in &chunk[..n] {
+            if *b == b'\n' {
+                let n = reply(held, line, given, lent, text);
+                prints::write_first(rt, text, n)?;
+                held = Some(0);
+            } else {
+                held = take(line, held, *b);
+            }
+        }
+    }
+    if held != Some(0) {
+        let n = reply(held, line, given, lent, text);
+        prints::write_first(rt, text, n)?;
     }
     Ok(())
 }
 
 // Rooms as every stack has them. A line of text has room for the longest answer too.
 fn serve_small(rt: &(impl Input + Print)) -> io::Result<()> {
-    let mut line = prints::line();
-    let mut given = prints::room();
-    let mut lent = prints::room();
-    let mut text = prints::line();
+    let mut line = prints::room::<{ prints::LINE }>();
+    let mut given = prints::room::<{ prints::ROOM }>();
+    let mut lent = prints::room::<{ prints::ROOM }>();
+    let mut text = prints::room::<{ prints::LINE }>();
     serve(rt, &mut line, &mut given, &mut lent, &mut text)
 }
 
 // Large rooms, apart from main's (see prints::never).
 fn serve_large(rt: &HostRuntime, depth: u64) -> io::Result<()> {
-    let mut line = prints::large_line();
-    let mut given = prints::large_data();
-    let mut lent = prints::large_data();
-    let mut text = prints::large_line();
+    let mut line = prints::room::<{ prints::LARGE_LINE }>();
+    let mut given = prints::room::<{ prints::LARGE_DATA }>();
+    let mut lent = prints::room::<{ prints::LARGE_DATA }>();
+    let mut text = prints::room::<{ prints::LARGE_LINE }>();
     serve(rt, &mut line, &mut given, &mut lent, &mut text)?;
-    if prints::never(rt) {
-        if 0 < depth {
-            serve_large(rt, depth - 1)?;
-        }
+    if 0 < depth && prints::never(rt) {
+        serve_large(rt, depth - 1)?;
     }
     Ok(())
 }

@@ -13,7 +13,7 @@ use Rattle.cedt.specs.declared.CxlTarget.{CxlTarget}
 use Rattle.cedt.specs.declared.XorInterleaveMath.{XorInterleaveMath}
 use Rattle.cedt.specs.declared.XorMap.{XorMap}
 use Rattle.cedt.specs.Cedt.{bridge_shown, bridge_node, window_fields, window_node, target_fields, maths_head, map_fields}
-use Rattle.cedt.proofs.CxlVersion.number.Reads as CxlVersion-number
+use Rattle.cedt.proofs.U32FromCxlVersion.from.Reads as U32FromCxlVersion-from
 use Rattle.cedt.proofs.CxlVersion.len.Reads as CxlVersion-len
 use Rattle.cedt.proofs.CxlHostBridge.new.Reads as CxlHostBridge-new
 use Rattle.cedt.proofs.CxlHostBridge.len.Reads as CxlHostBridge-len
@@ -26,9 +26,9 @@ use Rattle.cedt.proofs.CxlHostBridge.put_body.Reads as CxlHostBridge-put-body
 use Rattle.cedt.proofs.CxlHostBridge.put_fields.Reads as CxlHostBridge-put-fields
 use Rattle.cedt.proofs.CxlHostBridge.bad_field.Reads as CxlHostBridge-bad-field
 use Rattle.cedt.proofs.CxlHostBridge.is_sound.Reads as CxlHostBridge-is-sound
-use Rattle.cedt.proofs.InterleaveArithmetic.number.Reads as InterleaveArithmetic-number
-use Rattle.cedt.proofs.InterleaveGranularity.number.Reads as InterleaveGranularity-number
-use Rattle.cedt.proofs.InterleaveWays.number.Reads as InterleaveWays-number
+use Rattle.cedt.proofs.U8FromInterleaveArithmetic.from.Reads as U8FromInterleaveArithmetic-from
+use Rattle.cedt.proofs.U8FromInterleaveGranularity.from.Reads as U8FromInterleaveGranularity-from
+use Rattle.cedt.proofs.U8FromInterleaveWays.from.Reads as U8FromInterleaveWays-from
 use Rattle.cedt.proofs.CxlFixedMemory.new.Reads as CxlFixedMemory-new
 use Rattle.cedt.proofs.CxlFixedMemory.cxl_type_2_memory.Reads as CxlFixedMemory-cxl-type-2-memory
 use Rattle.cedt.proofs.CxlFixedMemory.cxl_type_3_memory.Reads as CxlFixedMemory-cxl-type-3-memory
@@ -125,7 +125,7 @@ one-map-body = sole-meant map_fields (λ (vs : List ℕ). map_from (at vs 0)) (�
 
 -- for each public function: what its contract fixes of the result `x` and of the parameters afterwards, `p`
 pub record Unique : Type 0 where
-  CxlVersion-number : Fixes CxlVersion-number.Learnt (λ k x p. x)
+  U32FromCxlVersion-from : Fixes U32FromCxlVersion-from.Learnt (λ k x p. x)
   CxlVersion-len : Fixes CxlVersion-len.Learnt (λ k x p. x)
   CxlHostBridge-new : Fixes CxlHostBridge-new.Learnt (λ k x p. x)
   CxlHostBridge-len : Fixes CxlHostBridge-len.Learnt (λ k x p. x)
@@ -138,9 +138,9 @@ pub record Unique : Type 0 where
   CxlHostBridge-put-fields : Fixes CxlHostBridge-put-fields.Learnt (λ k x p. p.1.0.now)
   CxlHostBridge-bad-field : Fixes CxlHostBridge-bad-field.Learnt (λ k x p. x)
   CxlHostBridge-is-sound : Fixes CxlHostBridge-is-sound.Learnt (λ k x p. x)
-  InterleaveArithmetic-number : Fixes InterleaveArithmetic-number.Learnt (λ k x p. x)
-  InterleaveGranularity-number : Fixes InterleaveGranularity-number.Learnt (λ k x p. x)
-  InterleaveWays-number : Fixes InterleaveWays-number.Learnt (λ k x p. x)
+  U8FromInterleaveArithmetic-from : Fixes U8FromInterleaveArithmetic-from.Learnt (λ k x p. x)
+  U8FromInterleaveGranularity-from : Fixes U8FromInterleaveGranularity-from.Learnt (λ k x p. x)
+  U8FromInterleaveWays-from : Fixes U8FromInterleaveWays-from.Learnt (λ k x p. x)
   CxlFixedMemory-new : Fixes CxlFixedMemory-new.Learnt (λ k x p. x)
   CxlFixedMemory-cxl-type-2-memory : Fixes CxlFixedMemory-cxl-type-2-memory.Learnt (λ k x p. x)
   CxlFixedMemory-cxl-type-3-memory : Fixes CxlFixedMemory-cxl-type-3-memory.Learnt (λ k x p. x)
@@ -181,7 +181,7 @@ pub record Unique : Type 0 where
 pub unique : Unique
 unique =
     record {
-      CxlVersion-number = λ k a x y p q. sole;
+      U32FromCxlVersion-from = λ k a x y p q. sole;
       CxlVersion-len = λ k a x y p q. sole;
       CxlHostBridge-new = λ k a x y p q. sole;
       CxlHostBridge-len = λ k a x y p q. sole;
@@ -194,9 +194,9 @@ unique =
       CxlHostBridge-put-fields = λ k a x y p q. sole;
       CxlHostBridge-bad-field = λ k a x y p q. sole;
       CxlHostBridge-is-sound = λ k a x y p q. sole;
-      InterleaveArithmetic-number = λ k a x y p q. sole;
-      InterleaveGranularity-number = λ k a x y p q. sole;
-      InterleaveWays-number = λ k a x y p q. sole;
+      U8FromInterleaveArithmetic-from = λ k a x y p q. sole;
+      U8FromInterleaveGranularity-from = λ k a x y p q. sole;
+      U8FromInterleaveWays-from = λ k a x y p q. sole;
       CxlFixedMemory-new = λ k a x y p q. sole;
       CxlFixedMemory-cxl-type-2-memory = λ k a x y p q. sole;
       CxlFixedMemory-cxl-type-3-memory = λ k a x y p q. sole;

@@ -14,6 +14,7 @@ ghost use Rattle.format.specs.Normal.{call, calls_of_node};
 ghost use Rattle.format.specs.Field.{bad_field};
 ghost use Rattle.format.specs.Row.{bridges, windows, xors, column, form_in};
 ghost use Rattle.format.specs.Read.{sound};
+ghost use Rattle.field.specs.Place.{place_or_none};
 ghost use Rattle.laws.specs.Offsets.{trimmed};
 ghost use Rattle.cedt.specs.Numbers.{version_number, arithmetic_number, granularity_number, ways_number};
 ghost use Rattle.cedt.specs.Cedt.{bridge_of, bridge_shown, bridge_node, window_of, window_with, window_form, window_fields, window_node, window_front, window_shown, target_in, target_fields, maths_of, maths_form, maths_fields, maths_head, maths_front, maths_shown, map_fields, grown};
@@ -26,16 +27,15 @@ pub enum CxlVersion {
     Cxl2,
 }
 
-impl CxlVersion {
-    pub fn number(self) -> u32
-        ensures { result ≡ version_number self }
-    {
-        match self {
-            CxlVersion::Cxl1_1 => 0,
-            CxlVersion::Cxl2 => 1,
-        }
-    }
+impl From<CxlVersion> for u32 {
+    ghost from_gives = { λ version n. n ≡ version_number version };
 
+    fn from(version: CxlVersion) -> u32 {
+        version as u32
+    }
+}
+
+impl CxlVersion {
     // How many bytes the registers of a bridge take.
     pub fn len(self) -> usize
         ensures { result ≡ registers (version_number self) }
@@ -87,7 +87,7 @@ impl CxlHostBridge {
     {
         Self {
             host_bridge_uid,
-            cxl_version: cxl_version.number(),
+            cxl_version: u32::from(cxl_version),
             port_base,
         }
     }
@@ -103,7 +103,7 @@ impl CxlHostBridge {
     pub fn registers(self) -> usize
         ensures { result ≡ registers self.cxl_version }
     {
-        if self.cxl_version == CxlVersion::Cxl1_1.number() {
+        if self.cxl_version == u32::from(CxlVersion::Cxl1_1) {
             return CxlVersion::Cxl1_1.len();
         }
         CxlVersion::Cxl2.len()
@@ -132,9 +132,9 @@ impl CxlHostBridge {
     {
         let s = field::rest(table, at);
         Self {
-            host_bridge_uid: field::get_u32(s, 4),
-            cxl_version: field::get_u32(s, 8),
-            port_base: field::get_u64(s, 16),
+            host_bridge_uid: field::get(s, 4),
+            cxl_version: field::get(s, 8),
+            port_base: field::get(s, 16),
         }
     }
 
@@ -149,19 +149,19 @@ impl CxlHostBridge {
     fn is_fixed(row: &[u8]) -> bool
         ensures { result ≡ fixed_ok (layout (form_in bridges row.now)) row.now }
     {
-        if field::get_u8(row, 0) != Self::TYPE {
+        if field::get::<u8>(row, 0) != Self::TYPE {
             return false;
         }
-        if field::get_u8(row, 1) != 0 {
+        if field::get::<u8>(row, 1) != 0 {
             return false;
         }
-        if field::get_u16(row, 2) as usize != Self::LEN {
+        if field::get::<u16>(row, 2) as usize != Self::LEN {
             return false;
         }
-        if field::get_u32(row, 12) != 0 {
+        if field::get::<u32>(row, 12) != 0 {
             return false;
         }
-        field::get_u64(row, 24) == Self::get(row, 0).registers() as u64
+        field::get::<u64>(row, 24) == Self::get(row, 0).registers() as u64
     }
 
     // The node of a body.
@@ -169,9 +169,9 @@ impl CxlHostBridge {
         ensures { bridge_shown result ≡ fields (body Bridge) bytes.now }
     {
         Self {
-            host_bridge_uid: field::get_u32(bytes, Self::UID_AT),
-            cxl_version: field::get_u8(bytes, Self::VERSION_AT) as u32,
-            port_base: field::get_u64(bytes, Self::BASE_AT),
+            host_bridge_uid: field::get(bytes, Self::UID_AT),
+            cxl_version: field::get::<u8>(bytes, Self::VERSION_AT) as u32,
+            port_base: field::get(bytes, Self::BASE_AT),
         }
     }
 
@@ -199,27 +199,24 @@ impl CxlHostBridge {
             self.cxl_version as u64,
             self.port_base,
         ];
-        field::copy_u64(answer, at, &vs);
+        field::copy(answer, at, &vs);
     }
 
-    // The place of the first field outside its range, counted from the kind byte; 0 for none.
-    pub fn bad_field(self) -> usize
-        ensures { result ≡ bad_field (bridge_node self) }
+    // The place of the first field outside its range, counted from the kind byte.
+    pub fn bad_field(self) -> Option<usize>
+        ensures { result ≡ place_or_none (bad_field (bridge_node self)) }
     {
         if Self::MAX_VERSION < self.cxl_version {
-            return 1 + Self::VERSION_AT;
+            return Some(1 + Self::VERSION_AT);
         }
-        0
+        None
     }
 
     // Whether a record is fixed where it has to be, and no field outside its range.
     pub fn is_sound(row: &[u8]) -> bool
         ensures { result ≡ sound (form_in bridges row.now) row.now }
     {
-        if !Self::is_fixed(row) {
-            return false;
-        }
-        Self::get(row, 0).bad_field() == 0
+        Self::is_fixed(row) && Self::get(row, 0).bad_field().is_none()
     }
 }
 
@@ -231,14 +228,11 @@ pub enum InterleaveArithmetic {
     ModuloXor,
 }
 
-impl InterleaveArithmetic {
-    pub fn number(self) -> u8
-        ensures { result ≡ arithmetic_number self }
-    {
-        match self {
-            InterleaveArithmetic::Modulo => 0,
-            InterleaveArithmetic::ModuloXor => 1,
-        }
+impl From<InterleaveArithmetic> for u8 {
+    ghost from_gives = { λ arithmetic n. n ≡ arithmetic_number arithmetic };
+
+    fn from(arithmetic: InterleaveArithmetic) -> u8 {
+        arithmetic as u8
     }
 }
 
@@ -253,23 +247,17 @@ pub enum InterleaveGranularity {
     Granularity16kb,
 }
 
+impl From<InterleaveGranularity> for u8 {
+    ghost from_gives = { λ granularity n. n ≡ granularity_number granularity };
+
+    fn from(granularity: InterleaveGranularity) -> u8 {
+        granularity as u8
+    }
+}
+
 impl InterleaveGranularity {
     // the highest number, which windows and XOR maths have in common
     const MAX: u8 = 6;
-
-    pub fn number(self) -> u8
-        ensures { result ≡ granularity_number self }
-    {
-        match self {
-            InterleaveGranularity::Granularity256b => 0,
-            InterleaveGranularity::Granularity512b => 1,
-            InterleaveGranularity::Granularity1kb => 2,
-            InterleaveGranularity::Granularity2kb => 3,
-            InterleaveGranularity::Granularity4kb => 4,
-            InterleaveGranularity::Granularity8kb => 5,
-            InterleaveGranularity::Granularity16kb => 6,
-        }
-    }
 }
 
 #[derive(Clone, Copy)]
@@ -280,26 +268,17 @@ pub enum InterleaveWays {
     Ways8,
     // the rest are for CXL.mem alone, version 2 and above
     Ways16,
-    Ways3,
-    Ways6,
-    Ways12,
+    Ways3 = 8,
+    Ways6 = 9,
+    Ways12 = 10,
 }
 
-impl InterleaveWays {
-    // The code, which is not the number of ways.
-    pub fn number(self) -> u8
-        ensures { result ≡ ways_number self }
-    {
-        match self {
-            InterleaveWays::Ways1 => 0,
-            InterleaveWays::Ways2 => 1,
-            InterleaveWays::Ways4 => 2,
-            InterleaveWays::Ways8 => 3,
-            InterleaveWays::Ways16 => 4,
-            InterleaveWays::Ways3 => 8,
-            InterleaveWays::Ways6 => 9,
-            InterleaveWays::Ways12 => 10,
-        }
+// The code, which is not the number of ways.
+impl From<InterleaveWays> for u8 {
+    ghost from_gives = { λ ways n. n ≡ ways_number ways };
+
+    fn from(ways: InterleaveWays) -> u8 {
+        ways as u8
     }
 }
 
@@ -385,9 +364,9 @@ impl CxlFixedMemory {
         Self {
             base_addr,
             size,
-            interleave_ways: ways.number(),
-            interleave_arithmetic: arithmetic.number(),
-            interleave_granularity: granularity.number() as u32,
+            interleave_ways: u8::from(ways),
+            interleave_arithmetic: u8::from(arithmetic),
+            interleave_granularity: u8::from(granularity) as u32,
             window_restrictions: 0,
             qtg_id,
         }
@@ -396,35 +375,35 @@ impl CxlFixedMemory {
     pub fn cxl_type_2_memory(mut self) -> Self
         ensures { result ≡ window_with 0 self }
     {
-        self.window_restrictions = self.window_restrictions | Self::CXL_TYPE_2_MEMORY;
+        self.window_restrictions |= Self::CXL_TYPE_2_MEMORY;
         self
     }
 
     pub fn cxl_type_3_memory(mut self) -> Self
         ensures { result ≡ window_with 1 self }
     {
-        self.window_restrictions = self.window_restrictions | Self::CXL_TYPE_3_MEMORY;
+        self.window_restrictions |= Self::CXL_TYPE_3_MEMORY;
         self
     }
 
     pub fn volatile(mut self) -> Self
         ensures { result ≡ window_with 2 self }
     {
-        self.window_restrictions = self.window_restrictions | Self::VOLATILE;
+        self.window_restrictions |= Self::VOLATILE;
         self
     }
 
     pub fn persistent(mut self) -> Self
         ensures { result ≡ window_with 3 self }
     {
-        self.window_restrictions = self.window_restrictions | Self::PERSISTENT;
+        self.window_restrictions |= Self::PERSISTENT;
         self
     }
 
     pub fn fixed_configuration(mut self) -> Self
         ensures { result ≡ window_with 4 self }
     {
-        self.window_restrictions = self.window_restrictions | Self::FIXED_CONFIGURATION;
+        self.window_restrictions |= Self::FIXED_CONFIGURATION;
         self
     }
 
@@ -488,7 +467,7 @@ impl CxlFixedMemory {
     pub fn target_place(at: usize, i: usize) -> usize
         ensures { result ≡ min (target_in at i) (2 ^ 64 - 1) }
     {
-        field::behind(field::behind(at, Self::LEN, 1), CxlTarget::LEN, i)
+        field::behind(at.saturating_add(Self::LEN), CxlTarget::LEN, i)
     }
 
     // Writes a target of the window at a place.
@@ -496,7 +475,7 @@ impl CxlFixedMemory {
         ensures { out.new ≡ over out.old (target_in at i) (le 4 target.0) }
     {
         let place = Self::target_place(at, i);
-        field::put_u32(out, place, target.0);
+        field::put(out, place, target.0);
     }
 
     // Reads the record at a place, without targets.
@@ -505,13 +484,13 @@ impl CxlFixedMemory {
     {
         let s = field::rest(table, at);
         Self {
-            base_addr: field::get_u64(s, 8),
-            size: field::get_u64(s, 16),
-            interleave_ways: field::get_u8(s, 24),
-            interleave_arithmetic: field::get_u8(s, 25),
-            interleave_granularity: field::get_u32(s, 28),
-            window_restrictions: field::get_u16(s, 32),
-            qtg_id: field::get_u16(s, 34),
+            base_addr: field::get(s, 8),
+            size: field::get(s, 16),
+            interleave_ways: field::get(s, 24),
+            interleave_arithmetic: field::get(s, 25),
+            interleave_granularity: field::get(s, 28),
+            window_restrictions: field::get(s, 32),
+            qtg_id: field::get(s, 34),
         }
     }
 
@@ -519,7 +498,7 @@ impl CxlFixedMemory {
     pub fn interleave_target(table: &[u8], at: usize, i: usize) -> CxlTarget
         ensures { result.0 ≡ value (part table.now (target_in at i) 4) }
     {
-        CxlTarget(field::get_u32(table, Self::target_place(at, i)))
+        CxlTarget(field::get(table, Self::target_place(at, i)))
     }
 
     // The Length column of the row: a window without a target is unknown, not faulty.
@@ -533,19 +512,19 @@ impl CxlFixedMemory {
     fn is_fixed(row: &[u8]) -> bool
         ensures { result ≡ fixed_ok (layout (form_in windows row.now)) row.now }
     {
-        if field::get_u8(row, 0) != Self::TYPE {
+        if field::get::<u8>(row, 0) != Self::TYPE {
             return false;
         }
-        if field::get_u8(row, 1) != 0 {
+        if field::get::<u8>(row, 1) != 0 {
             return false;
         }
-        if field::get_u16(row, 2) as usize != Self::get(row, 0).len() {
+        if field::get::<u16>(row, 2) as usize != Self::get(row, 0).len() {
             return false;
         }
-        if field::get_u32(row, 4) != 0 {
+        if field::get::<u32>(row, 4) != 0 {
             return false;
         }
-        field::get_u16(row, 26) == 0
+        field::get::<u16>(row, 26) == 0
     }
 
     // The node of a body.
@@ -553,13 +532,13 @@ impl CxlFixedMemory {
         ensures { window_fields result ≡ fields (body Window) bytes.now }
     {
         Self {
-            base_addr: field::get_u64(bytes, Self::BASE_AT),
-            size: field::get_u64(bytes, Self::SIZE_AT),
-            interleave_ways: field::get_u8(bytes, Self::WAYS_AT),
-            interleave_arithmetic: field::get_u8(bytes, Self::ARITHMETIC_AT),
-            interleave_granularity: field::get_u8(bytes, Self::GRANULARITY_AT) as u32,
-            window_restrictions: field::get_u8(bytes, Self::RESTRICTIONS_AT) as u16,
-            qtg_id: field::get_u16(bytes, Self::QTG_AT),
+            base_addr: field::get(bytes, Self::BASE_AT),
+            size: field::get(bytes, Self::SIZE_AT),
+            interleave_ways: field::get(bytes, Self::WAYS_AT),
+            interleave_arithmetic: field::get(bytes, Self::ARITHMETIC_AT),
+            interleave_granularity: field::get::<u8>(bytes, Self::GRANULARITY_AT) as u32,
+            window_restrictions: field::get::<u8>(bytes, Self::RESTRICTIONS_AT) as u16,
+            qtg_id: field::get(bytes, Self::QTG_AT),
         }
     }
 
@@ -595,36 +574,33 @@ impl CxlFixedMemory {
             self.window_restrictions as u64,
             self.qtg_id as u64,
         ];
-        field::copy_u64(answer, at, &vs);
+        field::copy(answer, at, &vs);
     }
 
-    // The place of the first field outside its range, counted from the kind byte; 0 for none.
-    pub fn bad_field(self) -> usize
-        ensures { result ≡ bad_field (window_node self) }
+    // The place of the first field outside its range, counted from the kind byte.
+    pub fn bad_field(self) -> Option<usize>
+        ensures { result ≡ place_or_none (bad_field (window_node self)) }
     {
         if self.num_interleaved_ways() == 0 {
-            return 1 + Self::WAYS_AT;
+            return Some(1 + Self::WAYS_AT);
         }
         if Self::MAX_ARITHMETIC < self.interleave_arithmetic {
-            return 1 + Self::ARITHMETIC_AT;
+            return Some(1 + Self::ARITHMETIC_AT);
         }
         if (InterleaveGranularity::MAX as u32) < self.interleave_granularity {
-            return 1 + Self::GRANULARITY_AT;
+            return Some(1 + Self::GRANULARITY_AT);
         }
         if Self::MAX_RESTRICTIONS < self.window_restrictions {
-            return 1 + Self::RESTRICTIONS_AT;
+            return Some(1 + Self::RESTRICTIONS_AT);
         }
-        0
+        None
     }
 
     // Whether a record is fixed where it has to be, and no field outside its range.
     pub fn is_sound(row: &[u8]) -> bool
         ensures { result ≡ sound (form_in windows row.now) row.now }
     {
-        if !Self::is_fixed(row) {
-            return false;
-        }
-        Self::get(row, 0).bad_field() == 0
+        Self::is_fixed(row) && Self::get(row, 0).bad_field().is_none()
     }
 }
 
@@ -651,7 +627,7 @@ impl CxlTarget {
     pub fn from_body(bytes: &[u8]) -> Self
         ensures { target_fields result ≡ fields (body WindowTarget) bytes.now }
     {
-        Self(field::get_u32(bytes, Self::UID_AT))
+        Self(field::get(bytes, Self::UID_AT))
     }
 
     // Writes kind byte and body; how many bytes that is.
@@ -704,7 +680,7 @@ impl XorInterleaveMath {
         ensures { result ≡ maths_of granularity }
     {
         Self {
-            granularity: granularity.number(),
+            granularity: u8::from(granularity),
             xormaps: 0,
         }
     }
@@ -734,7 +710,7 @@ impl XorInterleaveMath {
     fn map_place(at: usize, i: usize) -> usize
         ensures { result ≡ min (at + 8 + 8 * i) (2 ^ 64 - 1) }
     {
-        field::behind(field::behind(at, Self::LEN, 1), XorMap::LEN, i)
+        field::behind(at.saturating_add(Self::LEN), XorMap::LEN, i)
     }
 
     // Writes a map of the record at a place.
@@ -742,7 +718,7 @@ impl XorInterleaveMath {
         ensures { out.new ≡ over out.old (at + 8 + 8 * i) (le 8 map) }
     {
         let place = Self::map_place(at, i);
-        field::put_u64(out, place, map);
+        field::put(out, place, map);
     }
 
     // Whether a record of n maps takes no more.
@@ -758,8 +734,8 @@ impl XorInterleaveMath {
     {
         let more = n as u32 + 1;
         let len = Self::LEN as u32 + XorMap::LEN as u32 * more;
-        field::put_u16(out, field::behind(at, 2, 1), (len % 65536) as u16);
-        field::put_u8(out, field::behind(at, 7, 1), (more % 256) as u8);
+        field::put(out, at.saturating_add(2), (len % 65536) as u16);
+        field::put(out, at.saturating_add(7), (more % 256) as u8);
         Self::put_map(out, at, n as usize, map.0);
     }
 
@@ -769,8 +745,8 @@ impl XorInterleaveMath {
     {
         let s = field::rest(table, at);
         Self {
-            granularity: field::get_u8(s, 6),
-            xormaps: field::get_u8(s, 7),
+            granularity: field::get(s, 6),
+            xormaps: field::get(s, 7),
         }
     }
 
@@ -778,7 +754,7 @@ impl XorInterleaveMath {
     pub fn xormap(table: &[u8], at: usize, i: usize) -> XorMap
         ensures { result.0 ≡ value (part table.now (at + 8 + 8 * i) 8) }
     {
-        XorMap(field::get_u64(table, Self::map_place(at, i)))
+        XorMap(field::get(table, Self::map_place(at, i)))
     }
 
     // The Length column of the row.
@@ -792,16 +768,16 @@ impl XorInterleaveMath {
     fn is_fixed(row: &[u8]) -> bool
         ensures { result ≡ fixed_ok (layout (form_in xors row.now)) row.now }
     {
-        if field::get_u8(row, 0) != Self::TYPE {
+        if field::get::<u8>(row, 0) != Self::TYPE {
             return false;
         }
-        if field::get_u8(row, 1) != 0 {
+        if field::get::<u8>(row, 1) != 0 {
             return false;
         }
-        if field::get_u16(row, 2) as usize != Self::get(row, 0).len() {
+        if field::get::<u16>(row, 2) as usize != Self::get(row, 0).len() {
             return false;
         }
-        field::get_u16(row, 4) == 0
+        field::get::<u16>(row, 4) == 0
     }
 
     // The node of a body.
@@ -809,7 +785,7 @@ impl XorInterleaveMath {
         ensures { maths_head result ≡ node (xor 0) (fields (body Xor) bytes.now) }
     {
         Self {
-            granularity: field::get_u8(bytes, Self::GRANULARITY_AT),
+            granularity: field::get(bytes, Self::GRANULARITY_AT),
             xormaps: 0,
         }
     }
@@ -829,27 +805,24 @@ impl XorInterleaveMath {
         ensures { answer.new ≡ over answer.old at (maths_shown self) }
     {
         let vs = [self.granularity as u64, self.xormaps as u64];
-        field::copy_u64(answer, at, &vs);
+        field::copy(answer, at, &vs);
     }
 
-    // The place of the first field outside its range, counted from the kind byte; 0 for none.
-    pub fn bad_field(self) -> usize
-        ensures { result ≡ bad_field (maths_head self) }
+    // The place of the first field outside its range, counted from the kind byte.
+    pub fn bad_field(self) -> Option<usize>
+        ensures { result ≡ place_or_none (bad_field (maths_head self)) }
     {
         if InterleaveGranularity::MAX < self.granularity {
-            return 1 + Self::GRANULARITY_AT;
+            return Some(1 + Self::GRANULARITY_AT);
         }
-        0
+        None
     }
 
     // Whether a record is fixed where it has to be, and no field outside its range.
     pub fn is_sound(row: &[u8]) -> bool
         ensures { result ≡ sound (form_in xors row.now) row.now }
     {
-        if !Self::is_fixed(row) {
-            return false;
-        }
-        Self::get(row, 0).bad_field() == 0
+        Self::is_fixed(row) && Self::get(row, 0).bad_field().is_none()
     }
 }
 
@@ -876,7 +849,7 @@ impl XorMap {
     pub fn from_body(bytes: &[u8]) -> Self
         ensures { map_fields result ≡ fields (body Map) bytes.now }
     {
-        Self(field::get_u64(bytes, Self::MAP_AT))
+        Self(field::get(bytes, Self::MAP_AT))
     }
 
     // Writes kind byte and body; how many bytes that is.

@@ -1,197 +1,114 @@
 // The entries of a matrix, in columns as wide as they need.
-use crate::lines;
+use crate::lines::Line;
 use hmat::SystemLocality;
 use std::io;
+use std::ops::Range;
 
 // The width of a column that has room for a number behind two spaces, and is not narrower than w.
 fn wider(w: usize, n: u32) -> usize {
-    let mut digits = [0u8; 20];
-    let k = text::decimal(&mut digits, 0, n as u64);
-    if 20 < k {
-        return w;
-    }
-    if w < k + 2 {
-        return k + 2;
-    }
-    w
+    w.max(n.checked_ilog10().map_or(3, |log| log as usize + 3))
 }
 
-// The width of the column of initiators: no narrower than its name.
-fn label_width(table: &[u8], place: usize, initiators: u32) -> usize {
-    let mut w = 13;
-    let mut i = 0;
-    while i < initiators {
-        w = wider(w, SystemLocality::initiator_value(table, place, i as usize));
-        i += 1;
-    }
-    w
-}
-
-// The width of the columns of targets: no narrower than the widest entry.
-fn entry_width(table: &[u8], place: usize, initiators: u32, targets: u32) -> usize {
-    let mut w = 7;
-    let mut t = 0;
-    while t < targets {
-        w = wider(
-            w,
-            SystemLocality::target_value(table, place, initiators as usize, t as usize),
-        );
-        t += 1;
-    }
-    w
-}
-
-// A matrix of a table: where it stands, how many it is about, and how wide its columns are.
-#[derive(Clone, Copy)]
-struct Grid {
-    place: usize,
-    initiators: u32,
-    targets: u32,
-    label: usize,
-    entry: usize,
-}
-
-// Of a row or a column what is shown: all before `first` and all from `last` on.
-#[derive(Clone, Copy)]
-struct Ends {
-    first: u32,
-    last: u32,
-}
-
-// So many are shown whole where all are asked for or they are few; else eight at either end.
-fn shown_of(count: u32, all: bool) -> Ends {
-    let whole = Ends {
-        first: count,
-        last: count,
-    };
-    if all {
-        return whole;
-    }
-    if count <= 64 {
-        return whole;
-    }
-    Ends {
-        first: 8,
-        last: count - 8,
+// Of a row or a column what is left out: nothing where all are asked for or they are few; else all but eight at either end.
+fn left_out(count: u32, all: bool) -> Range<u32> {
+    if all || count <= 64 {
+        count..count
+    } else {
+        8..count - 8
     }
 }
 
 // Says how many are left out, if some are.
-fn left_out(rt: &impl Print, e: Ends, word: &[u8]) -> io::Result<()> {
-    if e.last <= e.first {
+fn say_left_out(rt: &impl Print, gap: &Range<u32>, word: &str) -> io::Result<()> {
+    if gap.is_empty() {
         return Ok(());
     }
-    words::say(rt, b"  .. ")?;
-    words::number(rt, (e.last - e.first) as u64)?;
-    words::say(rt, word)
+    println!(rt; "  .. {} {word} left out", gap.end - gap.start)
 }
 
-// Lays the column of those that are left out, if some are.
-fn lay_gap(
-    rt: &impl Print,
-    line: &mut [u8; 4096],
-    at: usize,
-    width: usize,
-    e: Ends,
-) -> io::Result<usize> {
-    if e.last <= e.first {
-        return Ok(at);
+// A matrix of a table: where it stands, what it is about, which of its columns are left out, and how wide they are.
+#[derive(Drop)]
+struct Grid<'a> {
+    table: &'a [u8],
+    place: usize,
+    matrix: SystemLocality,
+    gap: Range<u32>,
+    label: usize,
+    entry: usize,
+}
+
+impl Grid<'_> {
+    fn initiator(&self, i: u32) -> u32 {
+        SystemLocality::initiator_value(self.table, self.place, i as usize)
     }
-    lines::lay_right(rt, line, at, width, b"..")
-}
 
-// Lays some of the targets.
-fn lay_targets(
-    rt: &impl Print,
-    line: &mut [u8; 4096],
-    start: usize,
-    table: &[u8],
-    g: Grid,
-    from: u32,
-    to: u32,
-) -> io::Result<usize> {
-    let initiators = g.initiators as usize;
-    let mut at = start;
-    let mut t = from;
-    while t < to {
-        let v = SystemLocality::target_value(table, g.place, initiators, t as usize);
-        at = lines::lay_number(rt, line, at, g.entry, v as u64)?;
-        t += 1;
+    fn target(&self, t: u32) -> u32 {
+        SystemLocality::target_value(
+            self.table,
+            self.place,
+            self.matrix.initiators as usize,
+            t as usize,
+        )
     }
-    Ok(at)
-}
 
-// The targets, above their columns.
-fn target_line(rt: &impl Print, table: &[u8], g: Grid, columns: Ends) -> io::Result<()> {
-    let mut line = [0u8; 4096];
-    let at = lines::lay_right(rt, &mut line, 0, g.label, b"initiator")?;
-    let at = lay_targets(rt, &mut line, at, table, g, 0, columns.first)?;
-    let at = lay_gap(rt, &mut line, at, g.entry, columns)?;
-    let at = lay_targets(rt, &mut line, at, table, g, columns.last, g.targets)?;
-    lines::write_line(rt, &mut line, at)
-}
-
-// Lays an entry; one that is not set is a dash.
-fn lay_entry(
-    rt: &impl Print,
-    line: &mut [u8; 4096],
-    at: usize,
-    width: usize,
-    v: u16,
-) -> io::Result<usize> {
-    if v == SystemLocality::UNREACHABLE_DOMAIN {
-        return lines::lay_right(rt, line, at, width, b"-");
+    // An entry, if it is set.
+    fn entry(&self, i: u32, t: u32) -> Option<u32> {
+        let SystemLocality {
+            initiators,
+            targets,
+            ..
+        } = self.matrix;
+        let v = SystemLocality::entry_value(self.table, self.place, initiators, targets, i, t);
+        (v != SystemLocality::UNREACHABLE_DOMAIN).then_some(v as u32)
     }
-    lines::lay_number(rt, line, at, width, v as u64)
-}
 
-// Lays initiator i's entries for some of the targets.
-fn lay_entries(
-    rt: &impl Print,
-    line: &mut [u8; 4096],
-    start: usize,
-    table: &[u8],
-    g: Grid,
-    i: u32,
-    from: u32,
-    to: u32,
-) -> io::Result<usize> {
-    let mut at = start;
-    let mut t = from;
-    while t < to {
-        let v = SystemLocality::entry_value(table, g.place, g.initiators, g.targets, i, t);
-        at = lay_entry(rt, line, at, g.entry, v)?;
-        t += 1;
+    // What stands in the column of a target: the target itself above the entries, then each initiator's entry.
+    fn value(&self, row: Option<u32>, t: u32) -> Option<u32> {
+        match row {
+            None => Some(self.target(t)),
+            Some(i) => self.entry(i, t),
+        }
     }
-    Ok(at)
-}
 
-// Initiator i, and its entries.
-fn entry_line(rt: &impl Print, table: &[u8], g: Grid, columns: Ends, i: u32) -> io::Result<()> {
-    let mut line = [0u8; 4096];
-    let initiator = SystemLocality::initiator_value(table, g.place, i as usize);
-    let at = lines::lay_number(rt, &mut line, 0, g.label, initiator as u64)?;
-    let at = lay_entries(rt, &mut line, at, table, g, i, 0, columns.first)?;
-    let at = lay_gap(rt, &mut line, at, g.entry, columns)?;
-    let at = lay_entries(rt, &mut line, at, table, g, i, columns.last, g.targets)?;
-    lines::write_line(rt, &mut line, at)
-}
-
-// A line for each of some initiators.
-fn entry_lines(
-    rt: &impl Print,
-    table: &[u8],
-    g: Grid,
-    columns: Ends,
-    from: u32,
-    to: u32,
-) -> io::Result<()> {
-    let mut i = from;
-    while i < to {
-        entry_line(rt, table, g, columns, i)?;
-        i += 1;
+    // Lays some of the columns of a row; an entry that is not set is a dash.
+    fn lay(
+        &self,
+        rt: &impl Print,
+        line: &mut Line,
+        row: Option<u32>,
+        columns: Range<u32>,
+    ) -> io::Result<()> {
+        for t in columns {
+            match self.value(row, t) {
+                Some(v) => line.number(rt, self.entry, v as u64)?,
+                None => line.right(rt, self.entry, b"-")?,
+            }
+        }
+        Ok(())
     }
-    Ok(())
+
+    // A row: the targets, above their columns, or an initiator and its entries.
+    fn row(&self, rt: &impl Print, row: Option<u32>) -> io::Result<()> {
+        let mut line = Line::new();
+        match row {
+            None => line.right(rt, self.label, b"initiator")?,
+            Some(i) => line.number(rt, self.label, self.initiator(i) as u64)?,
+        }
+        self.lay(rt, &mut line, row, 0..self.gap.start)?;
+        if !self.gap.is_empty() {
+            line.right(rt, self.entry, b"..")?;
+        }
+        self.lay(rt, &mut line, row, self.gap.end..self.matrix.targets)?;
+        line.end(rt)
+    }
+
+    // A line for each of some initiators.
+    fn rows(&self, rt: &impl Print, initiators: Range<u32>) -> io::Result<()> {
+        for i in initiators {
+            self.row(rt, Some(i))?;
+        }
+        Ok(())
+    }
 }
 
 // A line for the targets and one for each initiator; of many, those at either end.
@@ -199,21 +116,23 @@ pub fn entries(
     rt: &impl Print,
     table: &[u8],
     place: usize,
-    m: SystemLocality,
+    matrix: SystemLocality,
     all: bool,
 ) -> io::Result<()> {
-    let g = Grid {
+    let mut g = Grid {
+        table,
         place,
-        initiators: m.initiators,
-        targets: m.targets,
-        label: label_width(table, place, m.initiators),
-        entry: entry_width(table, place, m.initiators, m.targets),
+        matrix,
+        gap: left_out(matrix.targets, all),
+        label: 13,
+        entry: 7,
     };
-    let rows = shown_of(m.initiators, all);
-    let columns = shown_of(m.targets, all);
-    left_out(rt, columns, b" targets left out\n")?;
-    target_line(rt, table, g, columns)?;
-    entry_lines(rt, table, g, columns, 0, rows.first)?;
-    left_out(rt, rows, b" initiators left out\n")?;
-    entry_lines(rt, table, g, columns, rows.last, g.initiators)
+    g.label = (0..matrix.initiators).fold(g.label, |w, i| wider(w, g.initiator(i)));
+    g.entry = (0..matrix.targets).fold(g.entry, |w, t| wider(w, g.target(t)));
+    let gap = left_out(matrix.initiators, all);
+    say_left_out(rt, &g.gap, "targets")?;
+    g.row(rt, None)?;
+    g.rows(rt, 0..gap.start)?;
+    say_left_out(rt, &gap, "initiators")?;
+    g.rows(rt, gap.end..matrix.initiators)
 }

@@ -1,63 +1,66 @@
-// Lines that are laid column by column before they are written.
-ghost use Rattle.std.specs.Prelude.{◌≤◌, IfOk};
+// Lines that are laid column by column before they are written: a write for each column would be many.
+ghost use Rattle.std.specs.Prelude.{◌+◌, ◌≤◌, OnOk};
 
 use std::io;
+use text::Text;
 
-// Makes room for some columns more: writes what is laid where there is none; where the next may stand.
-fn clear(rt: &impl Print, line: &[u8; 4096], at: usize, width: usize) -> io::Result<usize>
-    requires { at ≤ 4096 }
-    ensures { IfOk result (λ n. n ≤ 4096) }
-{
-    if 4096 - at < width {
-        prints::write_first(rt, line, at)?;
-        return Ok(0);
-    }
-    Ok(at)
-}
+// How many columns are laid before they are written.
+const ROOM: usize = 4096;
 
-// Lays a word so that it ends a column; where the column ends, or the same place where it is narrower than the word.
-pub fn lay_right(
-    rt: &impl Print,
-    line: &mut [u8; 4096],
+// What is laid of a line and not yet written.
+#[derive(Drop)]
+pub struct Line {
+    bytes: [u8; ROOM],
     at: usize,
-    width: usize,
-    word: &[u8],
-) -> io::Result<usize> {
-    let n = word.len();
-    if 4096 < at {
-        return Ok(at);
-    }
-    if 4096 < width {
-        return Ok(at);
-    }
-    if width < n {
-        return Ok(at);
-    }
-    let at = clear(rt, line, at, width)?;
-    field::fill(line, at, width, 32);
-    field::copy(line, at + (width - n), word);
-    Ok(at + width)
+    ghost within: { at ≤ 4096 },
 }
 
-// The same for a number.
-pub fn lay_number(
-    rt: &impl Print,
-    line: &mut [u8; 4096],
-    at: usize,
-    width: usize,
-    v: u64,
-) -> io::Result<usize> {
-    let mut digits = [0u8; 20];
-    let n = text::decimal(&mut digits, 0, v);
-    lay_right(rt, line, at, width, field::part(&digits, 0, n))
-}
-
-// Writes what is laid, and ends the line.
-pub fn write_line(rt: &impl Print, line: &mut [u8; 4096], at: usize) -> io::Result<()> {
-    if 4096 < at {
-        return Ok(());
+impl Line {
+    pub fn new() -> Line {
+        Line {
+            bytes: [0; ROOM],
+            at: 0,
+        }
     }
-    let at = clear(rt, line, at, 1)?;
-    field::put_u8(line, at, 10);
-    prints::write_first(rt, line, at + 1)
+
+    // Makes room for some columns more: writes what is laid where there is none.
+    fn clear(&mut self, rt: &impl Print, width: usize) -> io::Result<()>
+        requires { width ≤ 4096 }
+        ensures { OnOk result (self.new.at + width ≤ 4096) }
+    {
+        if ROOM - self.at < width {
+            rt.write_all(&self.bytes[..self.at])?;
+            self.at = 0;
+        }
+        Ok(())
+    }
+
+    // Lays a word so that it ends a column; nothing where the column is narrower than the word, or wider than the room.
+    pub fn right(&mut self, rt: &impl Print, width: usize, word: &[u8]) -> io::Result<()> {
+        let n = word.len();
+        if width < n || ROOM < width {
+            return Ok(());
+        }
+        self.clear(rt, width)?;
+        let (start, end) = (self.at + (width - n), self.at + width);
+        self.bytes[self.at..start].fill(b' ');
+        self.bytes[start..end].copy_from_slice(word);
+        self.at = end;
+        Ok(())
+    }
+
+    // The same for a number.
+    pub fn number(&mut self, rt: &impl Print, width: usize, v: u64) -> io::Result<()> {
+        let mut digits = [0u8; 20];
+        let mut text = Text::new(&mut digits);
+        text.decimal(v);
+        let n = text.len();
+        self.right(rt, width, field::part(&digits, 0, n))
+    }
+
+    // Writes what is laid, and ends the line.
+    pub fn end(mut self, rt: &impl Print) -> io::Result<()> {
+        rt.write_all(&self.bytes[..self.at])?;
+        println!(rt)
+    }
 }

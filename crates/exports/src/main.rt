@@ -30,51 +30,34 @@ fn put_recipe(out: &mut [u8]) {
     resource.put_body(out, RESOURCE);
 }
 
-fn number(rt: &impl Print, n: u64) -> io::Result<()> {
-    print!(rt; " {n}")
-}
-
 // A line: the function, what it answered, and the place.
-fn told(rt: &impl Print, name: &[u8], answer: u32, place: usize) -> io::Result<()> {
-    rt.write_all(name)?;
-    number(rt, answer as u64)?;
-    number(rt, place as u64)?;
-    rt.write_all(b"\n")
+fn told(rt: &impl Print, name: &str, answer: u32, place: usize) -> io::Result<()> {
+    println!(rt; "{name} {answer} {place}")
 }
 
 // A line: the first ten numbers of a record.
-fn listed(rt: &impl Print, name: &[u8], numbers: [u64; 10]) -> io::Result<()> {
-    rt.write_all(name)?;
-    number(rt, numbers[0])?;
-    number(rt, numbers[1])?;
-    number(rt, numbers[2])?;
-    number(rt, numbers[3])?;
-    number(rt, numbers[4])?;
-    number(rt, numbers[5])?;
-    number(rt, numbers[6])?;
-    number(rt, numbers[7])?;
-    number(rt, numbers[8])?;
-    number(rt, numbers[9])?;
-    rt.write_all(b"\n")
+fn listed(rt: &impl Print, name: &str, numbers: [u64; 10]) -> io::Result<()> {
+    print!(rt; "{name}")?;
+    for n in numbers {
+        print!(rt; " {n}")?;
+    }
+    println!(rt)
 }
 
 // The calls on a recipe, of which the last writes the table.
 fn of_recipe(rt: &impl Print, recipe: &[u8], table: &mut [u8]) -> io::Result<()> {
     let mut place: usize = 0;
     let checked = acpi::acpi_check(recipe, &mut place);
-    told(rt, b"check", checked, place)?;
+    told(rt, "check", checked, place)?;
     let built = acpi::acpi_build(recipe, table, &mut place);
-    told(rt, b"build", built, place)
+    told(rt, "build", built, place)
 }
 
 // A line: the sum of a table's bytes, and what passes 64 bits.
 fn added(rt: &impl Print, table: &[u8]) -> io::Result<()> {
     let mut high: u64 = 1;
     let sum = acpi::acpi_sum(table, &mut high);
-    rt.write_all(b"sum")?;
-    number(rt, sum)?;
-    number(rt, high)?;
-    rt.write_all(b"\n")
+    println!(rt; "sum {sum} {high}")
 }
 
 // The calls on a table, of which the last writes the recipe.
@@ -83,15 +66,15 @@ fn of_table(rt: &impl Print, table: &[u8], recipe: &mut [u8]) -> io::Result<()> 
     let mut record = [0u64; 10];
     let mut first = [0u64; 10];
     let accepted = acpi::acpi_accept(table, MASK, &mut place);
-    told(rt, b"accept", accepted, place)?;
+    told(rt, "accept", accepted, place)?;
     let found = acpi::acpi_read(table, MASK, 1, &mut record, &mut place);
-    told(rt, b"read", found, place)?;
-    listed(rt, b"record", record)?;
+    told(rt, "read", found, place)?;
+    listed(rt, "record", record)?;
     acpi::acpi_record_at(table, MASK, acpi::acpi_first_place(table), &mut first);
-    listed(rt, b"first", first)?;
+    listed(rt, "first", first)?;
     added(rt, table)?;
     let out = acpi::acpi_read_out(table, recipe, &mut place);
-    told(rt, b"read_out", out, place)
+    told(rt, "read_out", out, place)
 }
 
 fn main(rt: HostRuntime) -> io::Result<()> {

@@ -1,2 +1,5 @@
+pub mod Laid
+pub mod Orders
 pub mod Parts
+pub mod Places
 pub mod Unique

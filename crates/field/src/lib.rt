@@ -2,7 +2,8 @@
 // Any place is allowed: what would reach past the end is left out, and what is read there counts as 0.
 #![tactic(auto)]
 
-ghost use Rattle.std.specs.Prelude.{◌≡◌, ◌+◌, ◌-◌, ◌*◌, ◌/◌, ◌%◌, ◌^◌, ◌<◌, ◌≤◌, min, length, drop, replicate};
+ghost use Rattle.std.specs.Prelude.{◌≡◌, ◌+◌, ◌-◌, ◌*◌, ◌/◌, ◌%◌, ◌^◌, ◌<◌, ◌≤◌, min, ℕ, length, drop, replicate};
+ghost use Rattle.std.proofs.Common.{rules};
 ghost use Rattle.format.specs.Bytes.{le, value, join, part, over, sum};
 ghost use Rattle.field.specs.Whole.{number_of, whole_of};
 
@@ -10,13 +11,7 @@ ghost use Rattle.field.specs.Whole.{number_of, whole_of};
 fn fitting(len: usize, at: usize, n: usize) -> usize
     ensures { result ≡ min n (len - at) }
 {
-    if len <= at {
-        return 0;
-    }
-    if n < len - at {
-        return n;
-    }
-    len - at
+    len.saturating_sub(at).min(n)
 }
 
 // The place k steps of w bytes behind another. Where that is past what a usize can name it is the last place of all: no slice is longer,
@@ -24,146 +19,151 @@ fn fitting(len: usize, at: usize, n: usize) -> usize
 pub fn behind(at: usize, w: usize, k: usize) -> usize
     ensures { result ≡ min (at + w * k) (2 ^ 64 - 1) }
 {
-    if w == 0 {
-        return at;
+    at.saturating_add(w.saturating_mul(k))
+}
+
+// ---- numbers
+
+// A number of at most eight whole bytes.
+pub trait Number: Copy {
+    // How many bytes it has.
+    ghost WIDTH: { ℕ };
+
+    const WIDTH: usize;
+
+    // The number that it is.
+    ghost number: { Self → ℕ };
+
+    // Writes it over the whole of a slice of its width.
+    fn write(self, out: &mut [u8])
+        requires { length out.old ≡ WIDTH }
+        ensures { out.new ≡ le WIDTH (number self) };
+
+    // Reads it from such a slice.
+    fn read(s: &[u8]) -> Self
+        requires { length s.now ≡ WIDTH }
+        ensures { number result ≡ value s.now };
+
+    ghost narrow: { WIDTH ≤ 8 };
+}
+
+impl Number for u8 {
+    ghost WIDTH = { 1 };
+
+    const WIDTH: usize = 1;
+
+    ghost number = { λ n. n };
+
+    fn write(self, out: &mut [u8]) {
+        out.copy_from_slice(&u8::to_le_bytes(self));
     }
-    if (usize::MAX - at) / w < k {
-        return usize::MAX;
+
+    fn read(s: &[u8]) -> u8 {
+        s[0]
     }
-    at + w * k
+
+    ghost narrow = { Prim.search rules };
 }
 
-// ---- numbers that fit: no bound is tested
+impl Number for u16 {
+    ghost WIDTH = { 2 };
 
-fn lay_u8(out: &mut [u8], at: usize, v: u8)
-    requires { at + 1 ≤ length out.old }
-    ensures { out.new ≡ over out.old at (le 1 v) }
+    const WIDTH: usize = 2;
+
+    ghost number = { λ n. n };
+
+    fn write(self, out: &mut [u8]) {
+        out.copy_from_slice(&u16::to_le_bytes(self));
+    }
+
+    fn read(s: &[u8]) -> u16 {
+        u16::from_le_bytes([s[0], s[1]])
+    }
+
+    ghost narrow = { Prim.search rules };
+}
+
+impl Number for u32 {
+    ghost WIDTH = { 4 };
+
+    const WIDTH: usize = 4;
+
+    ghost number = { λ n. n };
+
+    fn write(self, out: &mut [u8]) {
+        out.copy_from_slice(&u32::to_le_bytes(self));
+    }
+
+    fn read(s: &[u8]) -> u32 {
+        u32::from_le_bytes([s[0], s[1], s[2], s[3]])
+    }
+
+    ghost narrow = { Prim.search rules };
+}
+
+impl Number for u64 {
+    ghost WIDTH = { 8 };
+
+    const WIDTH: usize = 8;
+
+    ghost number = { λ n. n };
+
+    fn write(self, out: &mut [u8]) {
+        out.copy_from_slice(&u64::to_le_bytes(self));
+    }
+
+    fn read(s: &[u8]) -> u64 {
+        u64::from_le_bytes([s[0], s[1], s[2], s[3], s[4], s[5], s[6], s[7]])
+    }
+
+    ghost narrow = { Prim.search rules };
+}
+
+// Writes v at any place.
+pub fn put<T: Number>(out: &mut [u8], at: usize, v: T)
+    ensures { out.new ≡ over out.old at (le T.WIDTH (T.number v)) }
 {
-    out[at] = v;
+    if at <= out.len() && T::WIDTH <= out.len() - at {
+        v.write(&mut out[at..at + T::WIDTH]);
+        return;
+    }
+    let mut bytes = [0u8; 8];
+    v.write(&mut bytes[..T::WIDTH]);
+    copy(out, at, &bytes[..T::WIDTH]);
 }
 
-fn lay_u16(out: &mut [u8], at: usize, v: u16)
-    requires { at + 2 ≤ length out.old }
-    ensures { out.new ≡ over out.old at (le 2 v) }
+// The number at any place.
+pub fn get<T: Number>(s: &[u8], at: usize) -> T
+    ensures { T.number result ≡ value (part s.now at T.WIDTH) }
 {
-    lay_u8(out, at, (v % 256) as u8);
-    lay_u8(out, at + 1, (v / 256) as u8);
+    let s = rest(s, at);
+    if T::WIDTH <= s.len() {
+        return T::read(&s[..T::WIDTH]);
+    }
+    T::read(&padded::<8>(s, 0)[..T::WIDTH])
 }
-
-fn lay_u32(out: &mut [u8], at: usize, v: u32)
-    requires { at + 4 ≤ length out.old }
-    ensures { out.new ≡ over out.old at (le 4 v) }
-{
-    lay_u16(out, at, (v % 65536) as u16);
-    lay_u16(out, at + 2, (v / 65536) as u16);
-}
-
-fn lay_u64(out: &mut [u8], at: usize, v: u64)
-    requires { at + 8 ≤ length out.old }
-    ensures { out.new ≡ over out.old at (le 8 v) }
-{
-    lay_u32(out, at, (v % 4294967296) as u32);
-    lay_u32(out, at + 4, (v / 4294967296) as u32);
-}
-
-fn read_u8(s: &[u8], at: usize) -> u8
-    requires { at + 1 ≤ length s.now }
-    ensures { result ≡ value (part s.now at 1) }
-{
-    s[at]
-}
-
-fn read_u16(s: &[u8], at: usize) -> u16
-    requires { at + 2 ≤ length s.now }
-    ensures { result ≡ value (part s.now at 2) }
-{
-    read_u8(s, at) as u16 + 256 * read_u8(s, at + 1) as u16
-}
-
-fn read_u32(s: &[u8], at: usize) -> u32
-    requires { at + 4 ≤ length s.now }
-    ensures { result ≡ value (part s.now at 4) }
-{
-    read_u16(s, at) as u32 + 65536 * read_u16(s, at + 2) as u32
-}
-
-fn read_u64(s: &[u8], at: usize) -> u64
-    requires { at + 8 ≤ length s.now }
-    ensures { result ≡ value (part s.now at 8) }
-{
-    read_u32(s, at) as u64 + 4294967296 * read_u32(s, at + 4) as u64
-}
-
-// ---- numbers at any place
 
 // Writes the low w bytes of v; how many of them stand before the end.
-fn put(out: &mut [u8], at: usize, w: usize, v: u64) -> usize
+fn put_low(out: &mut [u8], at: usize, w: usize, v: u64) -> usize
     ensures out_after { out.new ≡ over out.old at (le w v) }
     ensures value { result ≡ min w (length out.old - at) }
 {
     let n = fitting(out.len(), at, w);
     let mut rest = v;
-    let mut i = 0;
-    while i < n {
+    for i in 0..n {
         out[at + i] = (rest % 256) as u8;
-        rest = rest / 256;
-        i += 1;
+        rest /= 256;
     }
     n
-}
-
-// Writes v in one byte.
-pub fn put_u8(out: &mut [u8], at: usize, v: u8)
-    ensures { out.new ≡ over out.old at (le 1 v) }
-{
-    if at < out.len() {
-        lay_u8(out, at, v);
-    }
-}
-
-// Writes v in two bytes.
-pub fn put_u16(out: &mut [u8], at: usize, v: u16)
-    ensures { out.new ≡ over out.old at (le 2 v) }
-{
-    if fitting(out.len(), at, 2) == 2 {
-        lay_u16(out, at, v);
-    } else {
-        put(out, at, 2, v as u64);
-    }
-}
-
-// Writes v in four bytes.
-pub fn put_u32(out: &mut [u8], at: usize, v: u32)
-    ensures { out.new ≡ over out.old at (le 4 v) }
-{
-    if fitting(out.len(), at, 4) == 4 {
-        lay_u32(out, at, v);
-    } else {
-        put(out, at, 4, v as u64);
-    }
-}
-
-// Writes v in eight bytes.
-pub fn put_u64(out: &mut [u8], at: usize, v: u64)
-    ensures { out.new ≡ over out.old at (le 8 v) }
-{
-    if fitting(out.len(), at, 8) == 8 {
-        lay_u64(out, at, v);
-    } else {
-        put(out, at, 8, v);
-    }
 }
 
 // The same at any place, number by number.
 fn put_each(out: &mut [u8], at: usize, ws: &[usize], vs: &[u64])
     ensures { out.new ≡ over out.old at (join ws.now vs.now) }
 {
-    let n = fitting(ws.len(), 0, vs.len());
     let mut p = at;
-    let mut i = 0;
-    while i < n {
-        p += put(out, p, ws[i], vs[i]);
-        i += 1;
+    for (&w, &v) in ws.iter().zip(vs) {
+        p += put_low(out, p, w, v);
     }
 }
 
@@ -172,14 +172,8 @@ fn total(ws: &[usize]) -> usize
     ensures { result ≡ min (sum ws.now) (2 ^ 64 - 1) }
 {
     let mut n: usize = 0;
-    let mut i = 0;
-    while i < ws.len() {
-        let w = ws[i];
-        if usize::MAX - n < w {
-            return usize::MAX;
-        }
-        n += w;
-        i += 1;
+    for &w in ws {
+        n = n.saturating_add(w);
     }
     n
 }
@@ -203,14 +197,12 @@ pub fn put_all(out: &mut [u8], at: usize, ws: &[usize], vs: &[u64])
     put_each(&mut out[at..end], 0, ws, vs);
 }
 
-// The first eight bytes from a place on, with zeros where there are none.
-fn padded(s: &[u8], at: usize) -> [u8; 8]
-    ensures { result ≡ over (replicate 8 0) 0 (drop at s.now) }
+// The first N bytes from a place on, with zeros where there are none.
+pub fn padded<const N: usize>(s: &[u8], at: usize) -> [u8; N]
+    ensures { result ≡ over (replicate N 0) 0 (drop at s.now) }
 {
-    let mut bytes = [0u8; 8];
-    if at < s.len() {
-        copy(&mut bytes, 0, &s[at..]);
-    }
+    let mut bytes = [0u8; N];
+    copy(&mut bytes, 0, rest(s, at));
     bytes
 }
 
@@ -218,107 +210,35 @@ fn padded(s: &[u8], at: usize) -> [u8; 8]
 pub fn part(s: &[u8], at: usize, n: usize) -> &[u8]
     ensures { result.now ≡ part s.now at n }
 {
-    let len = s.len();
-    if len <= at {
-        return &s[len..];
-    }
-    if len - at <= n {
-        return &s[at..];
-    }
-    let end = at + n;
-    &s[at..end]
+    let s = rest(s, at);
+    &s[..n.min(s.len())]
 }
 
 // What stands from a place on.
 pub fn rest(s: &[u8], at: usize) -> &[u8]
     ensures { result.now ≡ drop at s.now }
 {
-    let len = s.len();
-    if len < at {
-        return &s[len..];
-    }
-    &s[at..]
-}
-
-// The number in one byte.
-pub fn get_u8(s: &[u8], at: usize) -> u8
-    ensures { result ≡ value (part s.now at 1) }
-{
-    if at < s.len() {
-        return read_u8(s, at);
-    }
-    0
-}
-
-// The number in two bytes.
-pub fn get_u16(s: &[u8], at: usize) -> u16
-    ensures { result ≡ value (part s.now at 2) }
-{
-    if fitting(s.len(), at, 2) == 2 {
-        return read_u16(s, at);
-    }
-    let bytes = padded(s, at);
-    read_u16(&bytes, 0)
-}
-
-// The number in four bytes.
-pub fn get_u32(s: &[u8], at: usize) -> u32
-    ensures { result ≡ value (part s.now at 4) }
-{
-    if fitting(s.len(), at, 4) == 4 {
-        return read_u32(s, at);
-    }
-    let bytes = padded(s, at);
-    read_u32(&bytes, 0)
-}
-
-// The number in eight bytes.
-pub fn get_u64(s: &[u8], at: usize) -> u64
-    ensures { result ≡ value (part s.now at 8) }
-{
-    if fitting(s.len(), at, 8) == 8 {
-        return read_u64(s, at);
-    }
-    let bytes = padded(s, at);
-    read_u64(&bytes, 0)
+    &s[at.min(s.len())..]
 }
 
 // ---- byte strings
 
 // Writes all of src.
-pub fn copy(out: &mut [u8], at: usize, src: &[u8])
+pub fn copy<T: Copy>(out: &mut [T], at: usize, src: &[T])
     ensures { out.new ≡ over out.old at src.now }
 {
-    let n = fitting(out.len(), at, src.len());
-    let mut i = 0;
-    while i < n {
-        out[at + i] = src[i];
-        i += 1;
-    }
-}
-
-// The same with numbers: there are no generics.
-pub fn copy_u64(out: &mut [u64], at: usize, src: &[u64])
-    ensures { out.new ≡ over out.old at src.now }
-{
-    let n = fitting(out.len(), at, src.len());
-    let mut i = 0;
-    while i < n {
-        out[at + i] = src[i];
-        i += 1;
-    }
+    let at = at.min(out.len());
+    let n = src.len().min(out.len() - at);
+    out[at..at + n].copy_from_slice(&src[..n]);
 }
 
 // Writes v n times.
 pub fn fill(out: &mut [u8], at: usize, n: usize, v: u8)
     ensures { out.new ≡ over out.old at (replicate n v) }
 {
-    let m = fitting(out.len(), at, n);
-    let mut i = 0;
-    while i < m {
-        out[at + i] = v;
-        i += 1;
-    }
+    let at = at.min(out.len());
+    let n = n.min(out.len() - at);
+    out[at..at + n].fill(v);
 }
 
 // ---- sums
@@ -371,12 +291,9 @@ pub fn u8sum(s: &[u8]) -> Whole
 {
     let mut high: u64 = 0;
     let mut low: u8 = 0;
-    let mut i = 0;
-    while i < s.len() {
-        let b = s[i];
+    for &b in s {
         high += carry(low, b);
-        low = std::num::wrapping_add_u8(low, b);
-        i += 1;
+        low = low.wrapping_add(b);
     }
     Whole { high, low }
 }

@@ -1,34 +1,48 @@
--- The header: two byte strings compared one by one, and the tests of a header in the order in which the code makes them.
-use mathlib.Core.Path.{◌≡◌, refl, ap, ◌∙◌}
-use Prim.Native.Nat.{ℕ, suc, ◌+◌, ◌≤◌, ◌<◌}
+-- The header: two byte strings compared, and the tests of a header in the order in which the code makes them.
+use mathlib.Core.Path.{◌≡◌, refl, sym, ◌∙◌}
+use Prim.Native.Nat.{ℕ, ◌≤◌, ◌<◌}
 use mathlib.Core.List.{List, [], ◌∷◌}
-use mathlib.Core.Bool.{Bool, true, false, not}
-use lib.ListN.{length, drop, drop_of_length-le}
+use mathlib.Core.Logic.{◌⊎◌, inl, inr}
+use mathlib.Core.Bool.{Bool, true, false, not, ◌&&◌}
+use lib.ListN.{length, drop}
 use lib.Dec.{eqb, leb}
-use borrow.Author.Tests.{le-leb}
-use Rattle.format.specs.Bytes.{pick, both, all, first_of, at, same}
+use borrow.Author.Tests.{eq-eqb, ne_eqb, eqb-true, le-leb, lt-leb}
+use Rattle.std.specs.Cmp.Lexicographic.{pointwise}
+use Rattle.format.specs.Bytes.{pick, both, all, first_of, same}
 use Rattle.format.specs.Layout.{fixed_ok}
 use Rattle.format.specs.Table.{Table, tail, front, limit}
 use Rattle.format.specs.Read.{length_in, right, head_fault}
-use Rattle.laws.proofs.Tests.{both_false}
-use Rattle.laws.proofs.Bytes.{drop-turn}
 
-pub same_length : (a b : List ℕ) → (length a ≡ length b → ⊥) → same a b ≡ false
+-- what `==` says of two byte strings
+pub eq-same : (a b : List ℕ) → pointwise eqb a b ≡ same a b
 unfolding same
-same_length [] [] h = absurd (h refl)
-same_length [] (y ∷ ys) h = refl
-same_length (x ∷ xs) [] h = refl
-same_length (x ∷ xs) (y ∷ ys) h = rw (same_length xs ys (λ e. h (ap suc e))) (both_false (eqb x y))
+eq-same [] [] = refl
+eq-same [] (y ∷ ys) = refl
+eq-same (x ∷ xs) [] = refl
+eq-same (x ∷ xs) (y ∷ ys) = rw (eq-same xs ys) (by (eqb x y))
+  where
+    by : (e : Bool) → (e && same xs ys) ≡ both e (same xs ys)
+    by true = refl
+    by false = refl
 
--- a turn of a loop that compares two byte strings of one length, and its end
-module _ (a b : List ℕ) (i : ℕ) (long : length a ≡ length b) where
-  pub same_turn : i < length a → same (drop i a) (drop i b) ≡ both (eqb (at a i) (at b i)) (same (drop (i + 1) a) (drop (i + 1) b))
-  unfolding same
-  same_turn h = let k : i < length b = rw (← long) h in rw (drop-turn a i h, drop-turn b i k)
+eqb-turn : (x y : ℕ) → eqb x y ≡ eqb y x
+eqb-turn x y = by (eqb y x) refl
+  where
+    by : (e : Bool) → eqb y x ≡ e → eqb x y ≡ e
+    by true e = eq-eqb x y (sym (eqb-true y x e))
+    by false e = ne_eqb x y (λ z. let n : true ≡ false = sym (eq-eqb y x (sym z)) ∙ e in cc)
 
-  pub same_end : length a ≤ i → same (drop i a) (drop i b) ≡ true
-  unfolding same
-  same_end h = let k : length b ≤ i = rw (← long) h in rw (drop_of_length-le a h, drop_of_length-le b k)
+-- what `starts_with` says of them
+pub starts-same : (a b : List ℕ) → pointwise eqb a b ≡ same b a
+unfolding same
+starts-same [] [] = refl
+starts-same [] (y ∷ ys) = refl
+starts-same (x ∷ xs) [] = refl
+starts-same (x ∷ xs) (y ∷ ys) = rw (starts-same xs ys, eqb-turn x y) (by (eqb y x))
+  where
+    by : (e : Bool) → (e && same ys xs) ≡ both e (same ys xs)
+    by true = refl
+    by false = refl
 
 -- 22, 23, 24, one test after the other
 tests : (a b c d e : Bool) → first_of ((not (all (a ∷ b ∷ c ∷ [])), 22) ∷ (not d, 23) ∷ (not e, 24) ∷ []) ≡ pick a (pick b (pick c (pick d (pick e 0 24) 23) 22) 22) 22
@@ -52,3 +66,9 @@ module _ (t : Table) (b : List ℕ) where
       let y : length_in b ≤ length b = rw (← i) l in
       let z : length_in b ≤ limit = rw (← i) m in
       head-fault ∙ rw (le-leb _ _ x, le-leb _ _ y, le-leb _ _ z)
+
+  -- where it is below the front, past what is lent or past the limit, nothing else is tested
+  pub head-short : (n f : ℕ) → n ≡ length_in b → f ≡ front t → (n < f) ⊎ ((f ≤ n) × (length b < n)) ⊎ ((f ≤ n) × (n ≤ length b) × (limit < n)) → head_fault t b ≡ 22
+  head-short n f i j (inl k) = head-fault ∙ rw (← i, ← j, lt-leb f n k)
+  head-short n f i j (inr (inl (k, l))) = head-fault ∙ rw (← i, ← j, le-leb f n k, lt-leb n (length b) l)
+  head-short n f i j (inr (inr (k, l, m))) = head-fault ∙ rw (← i, ← j, le-leb f n k, le-leb n (length b) l, lt-leb n limit m)

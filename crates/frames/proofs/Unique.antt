@@ -1,25 +1,23 @@
 -- Two answers that meet one contract are equal: what an answer stands for names the answer.
 use mathlib.Core.Path.{◌≡◌, refl, ap}
 use Prim.Native.Nat.{ℕ}
-use mathlib.Core.Option.{Option, none, some}
+use mathlib.Core.Option.{none, some}
+use mathlib.Core.Option as math
+use Rattle.std.specs.Prelude.{Option, Some, None, Result, Ok, Err}
 use lib.Dec.{eqb}
 use Rattle.format.specs.Bytes.{pick, Answer, refused, given}
 use Rattle.format.specs.Table.{Table}
 use Rattle.laws.specs.Unique.{Fixes}
 use Rattle.laws.proofs.Sole.{sole, sole-meant}
+use Rattle.header.specs.declared.Table as header
 use Rattle.header.specs.Header.{table_named}
 use Rattle.header.proofs.Unique.{table-back}
 use Rattle.frames.specs.declared.Refusal.{Refusal}
 use Rattle.frames.specs.declared.Refusal.TheVariants.{Short, BadSign, BadLength, BadSum, BadFront, BadFrame, BadRecord, BadRef, NoRecord}
-use Rattle.frames.specs.declared.Spelled.{Spelled}
-use Rattle.frames.specs.declared.Spelled.TheVariants as spelled
-use Rattle.frames.specs.declared.Judged.{Judged}
-use Rattle.frames.specs.declared.Judged.TheVariants as judged
 use Rattle.frames.specs.Refusals.{refusal_number, refusal_place, spelled_as, judged_as}
 use Rattle.frames.proofs.Refusal.number.Reads as Refusal-number
 use Rattle.frames.proofs.Refusal.place.Reads as Refusal-place
 use Rattle.frames.proofs.first.Reads as first
-use Rattle.frames.proofs.same.Reads as same
 use Rattle.frames.proofs.signed.Reads as signed
 use Rattle.frames.proofs.own.Reads as own
 use Rattle.frames.proofs.right.Reads as right
@@ -55,28 +53,28 @@ refusal-back (BadRecord p) = refl
 refusal-back (BadRef p) = refl
 refusal-back (NoRecord n) = refl
 
-abbrev spelled_of : Option Table → Spelled
-spelled_of none = spelled.Other
-spelled_of (some t) = spelled.Table (table_named t)
+abbrev spelled_of : math.Option Table → Option header.Table
+spelled_of none = None
+spelled_of (some t) = Some (table_named t)
 
-spelled_back : (s : Spelled) → spelled_of (spelled_as s) ≡ s
-spelled_back (spelled.Table t) = ap spelled.Table (table-back t)
-spelled_back spelled.Other = refl
+spelled_back : (s : Option header.Table) → spelled_of (spelled_as s) ≡ s
+spelled_back (Some t) = ap (λ (u : header.Table). Some u) (table-back t)
+spelled_back None = refl
 
-abbrev judged_of : Answer Table → Judged
-judged_of (refused k p) = judged.Refused (refusal_of k p)
-judged_of (given t) = judged.Table (table_named t)
+abbrev judged_of : Answer Table → Result header.Table Refusal
+judged_of (refused k p) = Err (refusal_of k p)
+judged_of (given t) = Ok (table_named t)
 
-judged-back : (j : Judged) → judged_of (judged_as j) ≡ j
-judged-back (judged.Table t) = ap judged.Table (table-back t)
-judged-back (judged.Refused r) = ap judged.Refused (refusal-back r)
+judged-back : (j : Result header.Table Refusal) → judged_of (judged_as j) ≡ j
+judged-back (Ok t) = ap (λ (u : header.Table). Ok u) (table-back t)
+judged-back (Err r) = ap (λ (q : Refusal). Err q) (refusal-back r)
 
 -- `signed`
-one_signature : (a b : Spelled) (t : Option Table) → spelled_as a ≡ t → spelled_as b ≡ t → a ≡ b
+one_signature : (a b : Option header.Table) (t : math.Option Table) → spelled_as a ≡ t → spelled_as b ≡ t → a ≡ b
 one_signature = sole-meant spelled_as spelled_of spelled_back
 
 -- `judge_head`
-one-header : (a b : Judged) (t : Answer Table) → judged_as a ≡ t → judged_as b ≡ t → a ≡ b
+one-header : (a b : Result header.Table Refusal) (t : Answer Table) → judged_as a ≡ t → judged_as b ≡ t → a ≡ b
 one-header = sole-meant judged_as judged_of judged-back
 
 -- ---- the contracts
@@ -86,7 +84,6 @@ pub record Unique : Type 0 where
   Refusal-number : Fixes Refusal-number.Learnt (λ k x p. x)
   Refusal-place : Fixes Refusal-place.Learnt (λ k x p. x)
   first : Fixes first.Learnt (λ k x p. x.now)
-  same : Fixes same.Learnt (λ k x p. x)
   signed : Fixes signed.Learnt (λ k x p. x)
   own : Fixes own.Learnt (λ k x p. x.now)
   right : Fixes right.Learnt (λ k x p. x)
@@ -105,7 +102,6 @@ unique =
       Refusal-number = λ k a x y p q. sole;
       Refusal-place = λ k a x y p q. sole;
       first = λ k a x y p q. sole;
-      same = λ k a x y p q. sole;
       signed = λ k a x y p q. one_signature x y _;
       own = λ k a x y p q. sole;
       right = λ k a x y p q. sole;

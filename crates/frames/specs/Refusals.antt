@@ -1,15 +1,13 @@
 -- The refusals of a reading call as document 01 numbers them, and what a judgement of a header stands for.
-use Rattle.std.specs.Prelude.{ℕ}
-use Rattle.std.proofs.Math.Option.{Option, none, some}
+use Rattle.std.specs.Prelude.{ℕ, Option, Some, None, Result, Ok, Err}
+use Rattle.std.proofs.Math.Option.{none, some}
+use Rattle.std.proofs.Math.Option as math
 use Rattle.format.specs.Bytes.{Answer, refused, given}
 use Rattle.format.specs.Table.{Table}
+use Rattle.header.specs.declared.Table as header
 use Rattle.header.specs.Header.{meant}
 use Rattle.frames.specs.declared.Refusal.{Refusal}
 use Rattle.frames.specs.declared.Refusal.TheVariants.{Short, BadSign, BadLength, BadSum, BadFront, BadFrame, BadRecord, BadRef, NoRecord}
-use Rattle.frames.specs.declared.Spelled.{Spelled}
-use Rattle.frames.specs.declared.Spelled.TheVariants as spelled
-use Rattle.frames.specs.declared.Judged.{Judged}
-use Rattle.frames.specs.declared.Judged.TheVariants as judged
 
 -- a refusal's number
 abbrev pub refusal_number : Refusal → ℕ
@@ -40,11 +38,11 @@ abbrev pub refusal : {A : Type 0} → Refusal → Answer A
 refusal r = refused (refusal_number r) (refusal_place r)
 
 -- the table that is spelled, if one is
-abbrev pub spelled_as : Spelled → Option Table
-spelled_as (spelled.Table t) = some (meant t)
-spelled_as spelled.Other = none
+abbrev pub spelled_as : Option header.Table → math.Option Table
+spelled_as (Some t) = some (meant t)
+spelled_as None = none
 
 -- which table it is, or the refusal
-abbrev pub judged_as : Judged → Answer Table
-judged_as (judged.Table t) = given (meant t)
-judged_as (judged.Refused r) = refusal r
+abbrev pub judged_as : Result header.Table Refusal → Answer Table
+judged_as (Ok t) = given (meant t)
+judged_as (Err r) = refusal r

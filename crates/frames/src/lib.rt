@@ -3,11 +3,12 @@
 #![tactic(auto)]
 
 ghost use Rattle.std.specs.Prelude.{◌≡◌, ◌+◌, ◌≤◌, length, take, drop};
-ghost use Rattle.format.specs.Bytes.{value, part, given, same, unless};
+ghost use Rattle.format.specs.Bytes.{value, part, given, unless};
 ghost use Rattle.format.specs.Layout.{fixed_ok};
 ghost use Rattle.format.specs.Table.{tail, least};
 ghost use Rattle.format.specs.Read.{signed, own, right, head_fault, judge_head, type_in, size_in, framed};
 ghost use Rattle.header.specs.Header.{meant};
+ghost use Rattle.field.specs.Place.{place_or_none};
 ghost use Rattle.frames.specs.Refusals.{refusal_number, refusal_place, spelled_as, judged_as};
 ghost use Rattle.frames.specs.Frames.{ahead, number_from, named, record_in};
 
@@ -15,7 +16,7 @@ use header::{Table, TableHeader};
 use marks::Mark;
 
 // What a reading call refuses, in the order of the tests.
-#[derive(Clone, Copy)]
+#[derive(Clone, Copy, Debug, PartialEq, Eq)]
 pub enum Refusal {
     // Under 36 bytes are lent.
     Short,
@@ -52,15 +53,11 @@ impl Refusal {
         ensures { result ≡ refusal_place self }
     {
         match self {
-            Refusal::Short => 0,
-            Refusal::BadSign => 0,
-            Refusal::BadLength => 0,
-            Refusal::BadSum => 0,
-            Refusal::BadFront => 0,
-            Refusal::BadFrame(p) => p,
-            Refusal::BadRecord(p) => p,
-            Refusal::BadRef(p) => p,
-            Refusal::NoRecord(n) => n,
+            Refusal::BadFrame(at)
+            | Refusal::BadRecord(at)
+            | Refusal::BadRef(at)
+            | Refusal::NoRecord(at) => at,
+            _ => 0,
         }
     }
 }
@@ -71,55 +68,26 @@ impl Refusal {
 pub fn first(s: &[u8], n: usize) -> &[u8]
     ensures { result.now ≡ take n s.now }
 {
-    if s.len() <= n {
-        return &s[..];
-    }
-    &s[..n]
-}
-
-// Whether two byte strings are the same.
-pub fn same(a: &[u8], b: &[u8]) -> bool
-    ensures { result ≡ same a.now b.now }
-{
-    if a.len() != b.len() {
-        return false;
-    }
-    let mut i = 0;
-    while i < a.len() {
-        if a[i] != b[i] {
-            return false;
-        }
-        i += 1;
-    }
-    true
+    &s[..n.min(s.len())]
 }
 
 // ---- the header
 
 // The table that the first four bytes spell.
-#[derive(Clone, Copy)]
-pub enum Spelled {
-    Table(Table),
-    Other,
-}
-
-pub fn signed(table: &[u8]) -> Spelled
+pub fn signed(table: &[u8]) -> Option<Table>
     ensures { spelled_as result ≡ signed table.now }
 {
-    let name = first(table, 4);
-    if same(name, b"PPTT") {
-        return Spelled::Table(Table::Pptt);
+    if table.starts_with(b"PPTT") {
+        Some(Table::Pptt)
+    } else if table.starts_with(b"SRAT") {
+        Some(Table::Srat)
+    } else if table.starts_with(b"HMAT") {
+        Some(Table::Hmat)
+    } else if table.starts_with(b"CEDT") {
+        Some(Table::Cedt)
+    } else {
+        None
     }
-    if same(name, b"SRAT") {
-        return Spelled::Table(Table::Srat);
-    }
-    if same(name, b"HMAT") {
-        return Spelled::Table(Table::Hmat);
-    }
-    if same(name, b"CEDT") {
-        return Spelled::Table(Table::Cedt);
-    }
-    Spelled::Other
 }
 
 // The table's own bytes: those that its length covers.
@@ -142,57 +110,38 @@ fn tail_stands(t: Table, table: &[u8]) -> bool
 {
     match t {
         Table::Pptt => true,
-        Table::Srat => {
-            if field::get_u32(table, 36) != 1 {
-                return false;
-            }
-            field::get_u64(table, 40) == 0
-        }
-        Table::Hmat => field::get_u32(table, 36) == 0,
+        Table::Srat => field::get::<u32>(table, 36) == 1 && field::get::<u64>(table, 40) == 0,
+        Table::Hmat => field::get::<u32>(table, 36) == 0,
         Table::Cedt => true,
     }
 }
 
-// Which table it is, or what is wrong with its header.
-#[derive(Clone, Copy)]
-pub enum Judged {
-    Table(Table),
-    Refused(Refusal),
-}
-
 // The header of a table that is signed as t.
-fn judge_as(t: Table, table: &[u8]) -> Judged
+fn judge_as(t: Table, table: &[u8]) -> Result<Table, Refusal>
     ensures { judged_as result ≡ unless (head_fault (meant t) table.now) 0 (given (meant t)) }
 {
     let n = TableHeader::length_in(table) as usize;
-    if n < t.front() {
-        return Judged::Refused(Refusal::BadLength);
-    }
-    if table.len() < n {
-        return Judged::Refused(Refusal::BadLength);
-    }
-    if header::LIMIT < n {
-        return Judged::Refused(Refusal::BadLength);
+    if n < t.front() || table.len() < n || header::LIMIT < n {
+        return Err(Refusal::BadLength);
     }
     if !right(table) {
-        return Judged::Refused(Refusal::BadSum);
+        return Err(Refusal::BadSum);
     }
     if !tail_stands(t, table) {
-        return Judged::Refused(Refusal::BadFront);
+        return Err(Refusal::BadFront);
     }
-    Judged::Table(t)
+    Ok(t)
 }
 
-pub fn judge_head(table: &[u8]) -> Judged
+// Which table it is, or what is wrong with its header.
+pub fn judge_head(table: &[u8]) -> Result<Table, Refusal>
     ensures { judged_as result ≡ judge_head table.now }
 {
     if table.len() < TableHeader::LEN {
-        return Judged::Refused(Refusal::Short);
+        return Err(Refusal::Short);
     }
-    match signed(table) {
-        Spelled::Table(t) => judge_as(t, table),
-        Spelled::Other => Judged::Refused(Refusal::BadSign),
-    }
+    let t = signed(table).ok_or(Refusal::BadSign)?;
+    judge_as(t, table)
 }
 
 // ---- frames: s is what stands from a record's place on
@@ -213,13 +162,13 @@ fn least(t: Table) -> usize
 pub fn short_type(s: &[u8]) -> u8
     ensures { result ≡ value (part s.now 0 1) }
 {
-    field::get_u8(s, 0)
+    field::get::<u8>(s, 0)
 }
 
 pub fn long_type(s: &[u8]) -> u16
     ensures { result ≡ value (part s.now 0 2) }
 {
-    field::get_u16(s, 0)
+    field::get::<u16>(s, 0)
 }
 
 // The type in a frame.
@@ -239,26 +188,19 @@ fn size_in(t: Table, s: &[u8]) -> usize
     ensures { result ≡ size_in (meant t) s.now }
 {
     match t {
-        Table::Pptt => field::get_u8(s, 1) as usize,
-        Table::Srat => field::get_u8(s, 1) as usize,
-        Table::Hmat => field::get_u32(s, 4) as usize,
-        Table::Cedt => field::get_u16(s, 2) as usize,
+        Table::Pptt => field::get::<u8>(s, 1) as usize,
+        Table::Srat => field::get::<u8>(s, 1) as usize,
+        Table::Hmat => field::get::<u32>(s, 4) as usize,
+        Table::Cedt => field::get::<u16>(s, 2) as usize,
     }
 }
 
-// Whether the rest is long enough for a frame, and its length neither below the least nor past the end.
+// Whether a frame stands there: its length is neither below the least nor past the end.
 pub fn framed(t: Table, s: &[u8]) -> bool
     ensures { result ≡ framed (meant t) s.now }
 {
-    let min = least(t);
     let n = size_in(t, s);
-    if s.len() < min {
-        return false;
-    }
-    if n < min {
-        return false;
-    }
-    n <= s.len()
+    least(t) <= n && n <= s.len()
 }
 
 // The bytes of the record.
@@ -278,18 +220,18 @@ fn size_at(t: Table, c: &[u8], p: usize) -> u32
     match t {
         Table::Pptt => c[p + 1] as u32,
         Table::Srat => c[p + 1] as u32,
-        Table::Hmat => field::get_u32(c, p + 4),
-        Table::Cedt => field::get_u16(c, p + 2) as u32,
+        Table::Hmat => field::get::<u32>(c, p + 4),
+        Table::Cedt => field::get::<u16>(c, p + 2) as u32,
     }
 }
 
-// The number of the record at v on the walk from a mark on, which counts those before it; 0 where the walk comes to none there.
+// The number of the record at v on the walk from a mark on, which counts those before it, if the walk comes to one there.
 // A length past the end is found where the walk would go on: only what is too short is tested on the way.
-pub fn number(t: Table, c: &[u8], from: Mark, v: usize) -> usize
-    ensures { result ≡ number_from (meant t) c.now v from }
+pub fn number(t: Table, c: &[u8], from: Mark, v: usize) -> Option<usize>
+    ensures { result ≡ place_or_none (number_from (meant t) c.now v from) }
 {
     if !framed(t, field::rest(c, v)) {
-        return 0;
+        return None;
     }
     let min = least(t);
     let mut p = from.place as usize;
@@ -297,23 +239,20 @@ pub fn number(t: Table, c: &[u8], from: Mark, v: usize) -> usize
     while p < v {
         let n = size_at(t, c, p) as usize;
         if n < min {
-            return 0;
+            return None;
         }
         p += n;
         k += 1;
     }
     if v < p {
-        return 0;
+        return None;
     }
-    k
+    Some(k)
 }
 
 // Whether the walk from a mark on comes to v, and to a record of type ty.
 pub fn starts(t: Table, c: &[u8], from: Mark, v: usize, ty: u16) -> bool
     ensures { result ≡ named (meant t) (ahead (meant t) c.now from.place) v ty }
 {
-    if number(t, c, from, v) == 0 {
-        return false;
-    }
-    type_in(t, field::rest(c, v)) == ty
+    number(t, c, from, v).is_some() && type_in(t, field::rest(c, v)) == ty
 }

@@ -1,18 +1,17 @@
 -- Two outcomes that meet one contract are equal: a sum is its number, a table what it stands for; the length of headers is that of one header, and the front of a table that of no records.
 use Rattle.std.proofs.Common.{◌≡◌, ℕ, length, replicate, refl, ap}
-use mathlib.Core.Option.{Option, none, some}
+use Rattle.std.specs.Prelude.{Option, Some, None}
+use Rattle.std.proofs.Math.Option as math
 use Rattle.format.specs.Table as format
 use Rattle.laws.specs.Unique.{Fixes}
 use Rattle.laws.proofs.Sole.{sole, sole-meant}
 use Rattle.header.specs.declared.Checksum.{Checksum}
 use Rattle.header.specs.declared.Table.{Table}
 use Rattle.header.specs.declared.Table.TheVariants.{Pptt, Srat, Hmat, Cedt}
-use Rattle.header.specs.declared.Coded.{Coded}
-use Rattle.header.specs.declared.Coded.TheVariants as coded
 use Rattle.header.specs.declared.TableHeader.{TableHeader}
 use Rattle.header.specs.Header.{meant, coded_as, table_named, header_bytes, Sized, header_of}
 use Rattle.header.proofs.limit.Reads as limit
-use Rattle.header.proofs.Checksum.default.Reads as Checksum-default
+use Rattle.header.proofs.ChecksumDefault.default.Reads as Checksum-default
 use Rattle.header.proofs.Checksum.append.Reads as Checksum-append
 use Rattle.header.proofs.Checksum.delete.Reads as Checksum-delete
 use Rattle.header.proofs.Checksum.add.Reads as Checksum-add
@@ -41,16 +40,16 @@ table-back Srat = refl
 table-back Hmat = refl
 table-back Cedt = refl
 
-abbrev coded_of : Option format.Table → Coded
-coded_of none = coded.Nothing
-coded_of (some t) = coded.Table (table_named t)
+abbrev coded_of : math.Option format.Table → Option Table
+coded_of math.none = None
+coded_of (math.some t) = Some (table_named t)
 
-coded-back : (c : Coded) → coded_of (coded_as c) ≡ c
-coded-back (coded.Table t) = ap coded.Table (table-back t)
-coded-back coded.Nothing = refl
+coded-back : (c : Option Table) → coded_of (coded_as c) ≡ c
+coded-back (Some t) = ap Some (table-back t)
+coded-back None = refl
 
 -- `Table::of_code`
-one_code : (a b : Coded) (t : Option format.Table) → coded_as a ≡ t → coded_as b ≡ t → a ≡ b
+one_code : (a b : Option Table) (t : math.Option format.Table) → coded_as a ≡ t → coded_as b ≡ t → a ≡ b
 one_code = sole-meant coded_as coded_of coded-back
 
 -- `Checksum`'s functions

@@ -1,13 +1,11 @@
 -- What the tables and their headers are in the words of the format.
-use Rattle.std.specs.Prelude.{◌≡◌, ℕ, List, ◌∷◌, ◌++◌, length, drop, replicate}
-use Rattle.std.proofs.Math.Option.{Option, none, some}
+use Rattle.std.specs.Prelude.{◌≡◌, ℕ, List, ◌∷◌, ◌++◌, length, drop, replicate, Option, Some, None}
+use Rattle.std.proofs.Math.Option as math
 use Rattle.format.specs.Bytes.{le, value, part, over}
 use Rattle.format.specs.Table.{pptt, srat, hmat, cedt, sign, revision, front}
 use Rattle.format.specs.Table as format
 use Rattle.header.specs.declared.Table.{Table}
 use Rattle.header.specs.declared.Table.TheVariants.{Pptt, Srat, Hmat, Cedt}
-use Rattle.header.specs.declared.Coded.{Coded}
-use Rattle.header.specs.declared.Coded.TheVariants as coded
 use Rattle.header.specs.declared.TableHeader.{TableHeader}
 
 -- the table that a variant stands for
@@ -18,9 +16,9 @@ meant Hmat = hmat
 meant Cedt = cedt
 
 -- the table that a number in a head stands for, if one does
-abbrev pub coded_as : Coded → Option format.Table
-coded_as (coded.Table t) = some (meant t)
-coded_as coded.Nothing = none
+abbrev pub coded_as : Option Table → math.Option format.Table
+coded_as (Some t) = math.some (meant t)
+coded_as None = math.none
 
 -- the variant that stands for a table
 abbrev pub table_named : format.Table → Table

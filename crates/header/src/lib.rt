@@ -23,18 +23,12 @@ pub fn limit() -> usize
 }
 
 // Keeps track of a rolling sum of bytes, modulo 256, of which value() is the checksum.
-#[derive(Clone, Copy)]
+#[derive(Clone, Copy, Default)]
 pub struct Checksum {
     pub value: u8,
 }
 
 impl Checksum {
-    pub fn default() -> Self
-        ensures { result.value ≡ 0 }
-    {
-        Self { value: 0 }
-    }
-
     // The sum with bytes added.
     pub fn append(self, data: &[u8]) -> Self
         ensures { result.value ≡ (self.value + sum «data».now) % 256 }
@@ -54,7 +48,7 @@ impl Checksum {
         ensures { result.value ≡ (self.value + «data») % 256 }
     {
         Self {
-            value: std::num::wrapping_add_u8(self.value, data),
+            value: self.value.wrapping_add(data),
         }
     }
 
@@ -62,7 +56,7 @@ impl Checksum {
         ensures { result.value ≡ (self.value + check_of «data») % 256 }
     {
         Self {
-            value: std::num::wrapping_sub_u8(self.value, data),
+            value: self.value.wrapping_sub(data),
         }
     }
 
@@ -77,12 +71,12 @@ impl Checksum {
     pub fn value(self) -> u8
         ensures { result ≡ check_of self.value }
     {
-        std::num::wrapping_add_u8(255 - self.value, 1)
+        self.value.wrapping_neg()
     }
 }
 
 // The tables that are built and read.
-#[derive(Clone, Copy)]
+#[derive(Clone, Copy, PartialEq, Eq)]
 pub enum Table {
     Pptt,
     Srat,
@@ -117,15 +111,15 @@ impl Table {
     const CEDT_CODE: u8 = 3;
 
     // The table that a number in a head stands for.
-    pub fn of_code(code: u8) -> Coded
+    pub fn of_code(code: u8) -> Option<Table>
         ensures { coded_as result ≡ table_of code }
     {
         match code {
-            Self::PPTT_CODE => Coded::Table(Table::Pptt),
-            Self::SRAT_CODE => Coded::Table(Table::Srat),
-            Self::HMAT_CODE => Coded::Table(Table::Hmat),
-            Self::CEDT_CODE => Coded::Table(Table::Cedt),
-            _ => Coded::Nothing,
+            Self::PPTT_CODE => Some(Table::Pptt),
+            Self::SRAT_CODE => Some(Table::Srat),
+            Self::HMAT_CODE => Some(Table::Hmat),
+            Self::CEDT_CODE => Some(Table::Cedt),
+            _ => None,
         }
     }
 
@@ -175,13 +169,6 @@ impl Table {
     }
 }
 
-// What a number in a head stands for.
-#[derive(Clone, Copy)]
-pub enum Coded {
-    Table(Table),
-    Nothing,
-}
-
 // Standard header of the tables.
 #[derive(Clone, Copy)]
 pub struct TableHeader {
@@ -220,22 +207,14 @@ impl TableHeader {
     pub fn from_body(table: Table, bytes: &[u8]) -> Self
         ensures { result ≡ head_from table bytes.now }
     {
-        let mut oem_id = [0u8; 6];
-        let mut oem_table_id = [0u8; 8];
-        let mut creator_id = [0u8; 4];
-        let mut creator_revision = [0u8; 4];
-        field::copy(&mut oem_id, 0, field::rest(bytes, 1));
-        field::copy(&mut oem_table_id, 0, field::rest(bytes, 7));
-        field::copy(&mut creator_id, 0, field::rest(bytes, 19));
-        field::copy(&mut creator_revision, 0, field::rest(bytes, 23));
         Self::new(
             table,
             table.front() as u32,
-            oem_id,
-            oem_table_id,
-            field::get_u32(bytes, 15),
-            creator_id,
-            creator_revision,
+            field::padded(bytes, 1),
+            field::padded(bytes, 7),
+            field::get(bytes, 15),
+            field::padded(bytes, 19),
+            field::padded(bytes, 23),
         )
     }
 
@@ -243,36 +222,36 @@ impl TableHeader {
     pub fn length_in(table: &[u8]) -> u32
         ensures { result ≡ length_in table.now }
     {
-        field::get_u32(table, Self::LENGTH_AT)
+        field::get(table, Self::LENGTH_AT)
     }
 
     // The revision of a table.
     pub fn revision_in(table: &[u8]) -> u8
         ensures { result ≡ value (part table.now 8 1) }
     {
-        field::get_u8(table, Self::REVISION_AT)
+        field::get(table, Self::REVISION_AT)
     }
 
     // Sets the length in a header.
     pub fn set_length(out: &mut [u8], length: u32)
         ensures { out.new ≡ over out.old 4 (le 4 length) }
     {
-        field::put_u32(out, Self::LENGTH_AT, length);
+        field::put(out, Self::LENGTH_AT, length);
     }
 
     // Sets the checksum in a header.
     pub fn set_checksum(out: &mut [u8], checksum: u8)
         ensures { out.new ≡ over out.old 9 (le 1 checksum) }
     {
-        field::put_u8(out, Self::CHECKSUM_AT, checksum);
+        field::put(out, Self::CHECKSUM_AT, checksum);
     }
 
     // Writes kind byte and body of the head of a recipe for a table of these bytes.
     pub fn put_body(table: Table, bytes: &[u8], out: &mut [u8])
         ensures { out.new ≡ over out.old 0 (head_call (head_in (meant table) bytes.now)) }
     {
-        field::put_u8(out, 0, Self::KIND);
-        field::put_u8(out, 1, table.code());
+        field::put(out, 0, Self::KIND);
+        field::put(out, 1, table.code());
         let n = Self::LEN - Self::IDENTITY_AT;
         field::copy(out, 2, field::part(bytes, Self::IDENTITY_AT, n));
     }
@@ -295,9 +274,8 @@ impl TableHeader {
     ) -> Self
         ensures { result ≡ header_of table length oem_id oem_table_id oem_revision creator_id creator_revision }
     {
-        let signature = table.signature();
         Self {
-            signature,
+            signature: table.signature(),
             length,
             revision: table.revision(),
             checksum: 0,
@@ -324,7 +302,7 @@ impl TableHeader {
     {
         field::copy(out, at, &self.oem_id);
         field::copy(out, at + 6, &self.oem_table_id);
-        field::put_u32(out, at + 14, self.oem_revision);
+        field::put(out, at + 14, self.oem_revision);
         field::copy(out, at + 18, &self.creator_id);
         field::copy(out, at + 22, &self.creator_revision);
     }
@@ -338,7 +316,7 @@ impl TableHeader {
         }
         let bytes = [self.revision, self.checksum];
         field::copy(out, at, &self.signature);
-        field::put_u32(out, at + 4, self.length);
+        field::put(out, at + 4, self.length);
         field::copy(out, at + 8, &bytes);
         self.put_identity(out, at + 10);
     }
@@ -349,12 +327,11 @@ pub fn put_front(table: Table, out: &mut [u8])
     ensures { (n : ℕ) → out.new ≡ over out.old 36 (lay (tail (meant table)) (told (meant table) n)) }
 {
     match table {
-        Table::Pptt => {}
+        Table::Pptt | Table::Cedt => {}
         Table::Srat => {
-            field::put_u32(out, TableHeader::LEN, 1);
-            field::put_u64(out, TableHeader::LEN + 4, 0);
+            field::put(out, TableHeader::LEN, 1u32);
+            field::put(out, TableHeader::LEN + 4, 0u64);
         }
-        Table::Hmat => field::put_u32(out, TableHeader::LEN, 0),
-        Table::Cedt => {}
+        Table::Hmat => field::put(out, TableHeader::LEN, 0u32),
     }
 }

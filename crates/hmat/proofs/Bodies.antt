@@ -63,13 +63,13 @@ value-join w kind v h = rw (lay-join as_is (body (Initiator w)) (value_fields v)
 
 -- ---- the indices of a cell
 
-pub cell-inside : (w : Width) (bs : List ℕ) (i t b : ℕ) (c : declared.Cell) → cell_fields c ≡ fields_with as_is (body (Cell w)) bs
-    → b ≡ bad_in (Cell w) (ltb c.initiator_idx i ∷ ltb c.target_idx t ∷ []) → eqb b 0 ≡ in_counts w bs i t
-cell-inside w bs i t b c e f =
+pub cell-inside : (w : Width) (bs : List ℕ) (i t : ℕ) (c : declared.Cell) → cell_fields c ≡ fields_with as_is (body (Cell w)) bs
+    → eqb (bad_in (Cell w) (ltb c.initiator_idx i ∷ ltb c.target_idx t ∷ [])) 0 ≡ in_counts w bs i t
+cell-inside w bs i t c e =
     let g = e ∙ cell-fields w bs in
     let first : c.initiator_idx ≡ value (part bs 0 (octets w)) = ap (λ (vs : List ℕ). at vs 0) g in
     let second : c.target_idx ≡ value (part bs (octets w) (octets w)) = ap (λ (vs : List ℕ). at vs 1) g in
-    rw (f, ← all-bad 1 (body (Cell w)) (ltb c.initiator_idx i ∷ ltb c.target_idx t ∷ []) (omega arith), first, second)
+    rw (← all-bad 1 (body (Cell w)) (ltb c.initiator_idx i ∷ ltb c.target_idx t ∷ []) (omega arith), first, second)
 
 -- a window of n bytes holds them
 pub window-inside : (w : Width) (bs : List ℕ) (n i t : ℕ) → octets w + octets w ≤ n → in_counts w (take n bs) i t ≡ in_counts w bs i t

@@ -1,3 +1,4 @@
+pub mod Widths
 pub mod Flags
 pub mod Matrices
 pub mod Sides

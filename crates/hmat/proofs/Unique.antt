@@ -28,10 +28,9 @@ use Rattle.hmat.proofs.MemoryProximityDomain.is_fixed.Reads as MemoryProximityDo
 use Rattle.hmat.proofs.MemoryProximityDomain.from_body.Reads as MemoryProximityDomain-from-body
 use Rattle.hmat.proofs.MemoryProximityDomain.put_body.Reads as MemoryProximityDomain-put-body
 use Rattle.hmat.proofs.MemoryProximityDomain.put_fields.Reads as MemoryProximityDomain-put-fields
-use Rattle.hmat.proofs.Width.is.Reads as Width-is
-use Rattle.hmat.proofs.DataType.number.Reads as DataType-number
-use Rattle.hmat.proofs.MinTransferSize.number.Reads as MinTransferSize-number
-use Rattle.hmat.proofs.LocalityType.number.Reads as LocalityType-number
+use Rattle.hmat.proofs.U8FromDataType.from.Reads as U8FromDataType-from
+use Rattle.hmat.proofs.U8FromMinTransferSize.from.Reads as U8FromMinTransferSize-from
+use Rattle.hmat.proofs.U8FromLocalityType.from.Reads as U8FromLocalityType-from
 use Rattle.hmat.proofs.SystemLocality.new.Reads as SystemLocality-new
 use Rattle.hmat.proofs.SystemLocality.non_sequential_transfers.Reads as SystemLocality-non-sequential-transfers
 use Rattle.hmat.proofs.SystemLocality.minimum_transfer_size_required.Reads as SystemLocality-minimum-transfer-size-required
@@ -71,9 +70,9 @@ use Rattle.hmat.proofs.Cell.from_body.Reads as Cell-from-body
 use Rattle.hmat.proofs.Cell.put_body.Reads as Cell-put-body
 use Rattle.hmat.proofs.Cell.bad_field.Reads as Cell-bad-field
 use Rattle.hmat.proofs.Cell.stands.Reads as Cell-stands
-use Rattle.hmat.proofs.CacheLevel.number.Reads as CacheLevel-number
-use Rattle.hmat.proofs.Associativity.number.Reads as Associativity-number
-use Rattle.hmat.proofs.WritePolicy.number.Reads as WritePolicy-number
+use Rattle.hmat.proofs.U32FromCacheLevel.from.Reads as U32FromCacheLevel-from
+use Rattle.hmat.proofs.U32FromAssociativity.from.Reads as U32FromAssociativity-from
+use Rattle.hmat.proofs.U32FromWritePolicy.from.Reads as U32FromWritePolicy-from
 use Rattle.hmat.proofs.MemorySideCache.new.Reads as MemorySideCache-new
 use Rattle.hmat.proofs.MemorySideCache.len.Reads as MemorySideCache-len
 use Rattle.hmat.proofs.MemorySideCache.put.Reads as MemorySideCache-put
@@ -171,10 +170,9 @@ pub record Unique : Type 0 where
   MemoryProximityDomain-from-body : Fixes MemoryProximityDomain-from-body.Learnt (λ k x p. x)
   MemoryProximityDomain-put-body : Fixes {S = ℕ × List ℕ} MemoryProximityDomain-put-body.Learnt (λ k x p. (x, p.1.0.now))
   MemoryProximityDomain-put-fields : Fixes MemoryProximityDomain-put-fields.Learnt (λ k x p. p.1.0.now)
-  Width-is : Fixes Width-is.Learnt (λ k x p. x)
-  DataType-number : Fixes DataType-number.Learnt (λ k x p. x)
-  MinTransferSize-number : Fixes MinTransferSize-number.Learnt (λ k x p. x)
-  LocalityType-number : Fixes LocalityType-number.Learnt (λ k x p. x)
+  U8FromDataType-from : Fixes U8FromDataType-from.Learnt (λ k x p. x)
+  U8FromMinTransferSize-from : Fixes U8FromMinTransferSize-from.Learnt (λ k x p. x)
+  U8FromLocalityType-from : Fixes U8FromLocalityType-from.Learnt (λ k x p. x)
   SystemLocality-new : Fixes SystemLocality-new.Learnt (λ k x p. x)
   SystemLocality-non-sequential-transfers : Fixes SystemLocality-non-sequential-transfers.Learnt (λ k x p. x)
   SystemLocality-minimum-transfer-size-required : Fixes SystemLocality-minimum-transfer-size-required.Learnt (λ k x p. x)
@@ -214,9 +212,9 @@ pub record Unique : Type 0 where
   Cell-put-body : Fixes {S = ℕ × List ℕ} Cell-put-body.Learnt (λ k x p. (x, p.1.1.0.now))
   Cell-bad-field : Fixes Cell-bad-field.Learnt (λ k x p. x)
   Cell-stands : Fixes Cell-stands.Learnt (λ k x p. x)
-  CacheLevel-number : Fixes CacheLevel-number.Learnt (λ k x p. x)
-  Associativity-number : Fixes Associativity-number.Learnt (λ k x p. x)
-  WritePolicy-number : Fixes WritePolicy-number.Learnt (λ k x p. x)
+  U32FromCacheLevel-from : Fixes U32FromCacheLevel-from.Learnt (λ k x p. x)
+  U32FromAssociativity-from : Fixes U32FromAssociativity-from.Learnt (λ k x p. x)
+  U32FromWritePolicy-from : Fixes U32FromWritePolicy-from.Learnt (λ k x p. x)
   MemorySideCache-new : Fixes MemorySideCache-new.Learnt (λ k x p. x)
   MemorySideCache-len : Fixes MemorySideCache-len.Learnt (λ k x p. x)
   MemorySideCache-put : Fixes MemorySideCache-put.Learnt (λ k x p. p.1.0.now)
@@ -249,10 +247,9 @@ unique =
       MemoryProximityDomain-from-body = λ k a x y p q. one-domain x y _;
       MemoryProximityDomain-put-body = λ k a x y p q l m. sole-pair (sole l.1 m.1) (sole l.0 m.0);
       MemoryProximityDomain-put-fields = λ k a x y p q. sole;
-      Width-is = λ k a x y p q. sole;
-      DataType-number = λ k a x y p q. sole;
-      MinTransferSize-number = λ k a x y p q. sole;
-      LocalityType-number = λ k a x y p q. sole;
+      U8FromDataType-from = λ k a x y p q. sole;
+      U8FromMinTransferSize-from = λ k a x y p q. sole;
+      U8FromLocalityType-from = λ k a x y p q. sole;
       SystemLocality-new = λ k a x y p q. sole;
       SystemLocality-non-sequential-transfers = λ k a x y p q. sole;
       SystemLocality-minimum-transfer-size-required = λ k a x y p q. sole;
@@ -292,9 +289,9 @@ unique =
       Cell-put-body = λ k a x y p q l m. sole-pair (sole l.1 m.1) (sole l.0 m.0);
       Cell-bad-field = λ k a x y p q. sole;
       Cell-stands = λ k a x y p q. sole;
-      CacheLevel-number = λ k a x y p q. sole;
-      Associativity-number = λ k a x y p q. sole;
-      WritePolicy-number = λ k a x y p q. sole;
+      U32FromCacheLevel-from = λ k a x y p q. sole;
+      U32FromAssociativity-from = λ k a x y p q. sole;
+      U32FromWritePolicy-from = λ k a x y p q. sole;
       MemorySideCache-new = λ k a x y p q. sole;
       MemorySideCache-len = λ k a x y p q. sole;
       MemorySideCache-put = λ k a x y p q. sole;

@@ -17,6 +17,7 @@ ghost use Rattle.format.specs.Normal.{call, calls_of_node};
 ghost use Rattle.format.specs.Field.{bad_in, bad_field};
 ghost use Rattle.format.specs.Row.{matrices, sides, counted, column, form_in};
 ghost use Rattle.format.specs.Read.{sound};
+ghost use Rattle.field.specs.Place.{place_or_none};
 ghost use Rattle.laws.specs.Offsets.{trimmed};
 ghost use Rattle.hmat.specs.Numbers.{data_type_number, transfer_number, locality_number, level_number, associativity_number, policy_number};
 ghost use Rattle.hmat.specs.Widths.{meant_width};
@@ -95,8 +96,8 @@ impl MemoryProximityDomain {
     {
         let s = field::rest(table, at);
         Self {
-            proximity_domain_initiator: field::get_u32(s, 12),
-            proximity_domain_memory: field::get_u32(s, 16),
+            proximity_domain_initiator: field::get(s, 12),
+            proximity_domain_memory: field::get(s, 16),
         }
     }
 
@@ -104,32 +105,32 @@ impl MemoryProximityDomain {
     fn is_zero(row: &[u8]) -> bool
         ensures { result ≡ eqb (value (part row.now 20 20)) 0 }
     {
-        if field::get_u32(row, 20) != 0 {
+        if field::get::<u32>(row, 20) != 0 {
             return false;
         }
-        if field::get_u64(row, 24) != 0 {
+        if field::get::<u64>(row, 24) != 0 {
             return false;
         }
-        field::get_u64(row, 32) == 0
+        field::get::<u64>(row, 32) == 0
     }
 
     // Zeros and fixed values of a record; no field has a range.
     pub fn is_fixed(row: &[u8]) -> bool
         ensures { result ≡ fixed_ok (layout domain) row.now }
     {
-        if field::get_u16(row, 0) != Self::TYPE {
+        if field::get::<u16>(row, 0) != Self::TYPE {
             return false;
         }
-        if field::get_u16(row, 2) != 0 {
+        if field::get::<u16>(row, 2) != 0 {
             return false;
         }
-        if field::get_u32(row, 4) as usize != Self::LEN {
+        if field::get::<u32>(row, 4) as usize != Self::LEN {
             return false;
         }
-        if field::get_u16(row, 8) != Self::DOMAIN_VALID {
+        if field::get::<u16>(row, 8) != Self::DOMAIN_VALID {
             return false;
         }
-        if field::get_u16(row, 10) != 0 {
+        if field::get::<u16>(row, 10) != 0 {
             return false;
         }
         Self::is_zero(row)
@@ -140,8 +141,8 @@ impl MemoryProximityDomain {
         ensures { domain_node result ≡ node domain (fields (body Domain) bytes.now) }
     {
         Self {
-            proximity_domain_initiator: field::get_u32(bytes, Self::INITIATOR_AT),
-            proximity_domain_memory: field::get_u32(bytes, Self::MEMORY_AT),
+            proximity_domain_initiator: field::get(bytes, Self::INITIATOR_AT),
+            proximity_domain_memory: field::get(bytes, Self::MEMORY_AT),
         }
     }
 
@@ -167,17 +168,17 @@ impl MemoryProximityDomain {
             self.proximity_domain_initiator as u64,
             self.proximity_domain_memory as u64,
         ];
-        field::copy_u64(answer, at, &vs);
+        field::copy(answer, at, &vs);
     }
 }
 
 // ---- rows 6 and 12
 
 // How wide a recipe writes the counts of a matrix and the indices of its settings: in one byte or in two.
-#[derive(Clone, Copy)]
+#[derive(Clone, Copy, Debug, PartialEq, Eq)]
 pub enum Width {
-    Byte,
-    Pair,
+    Byte = 1,
+    Pair = 2,
 }
 
 impl Width {
@@ -185,16 +186,7 @@ impl Width {
     fn octets(self) -> usize
         ensures { result ≡ octets (meant_width self) }
     {
-        match self {
-            Width::Byte => 1,
-            Width::Pair => 2,
-        }
-    }
-
-    pub fn is(self, other: Width) -> bool
-        ensures { result ≡ eqb (octets (meant_width self)) (octets (meant_width other)) }
-    {
-        self.octets() == other.octets()
+        self as usize
     }
 
     // Reads a number that is so wide.
@@ -202,8 +194,8 @@ impl Width {
         ensures { result ≡ value (part bytes.now at (octets (meant_width self))) }
     {
         match self {
-            Width::Byte => field::get_u8(bytes, at) as u16,
-            Width::Pair => field::get_u16(bytes, at),
+            Width::Byte => field::get::<u8>(bytes, at) as u16,
+            Width::Pair => field::get::<u16>(bytes, at),
         }
     }
 }
@@ -220,18 +212,11 @@ pub enum DataType {
     WriteBandwidth,
 }
 
-impl DataType {
-    pub fn number(self) -> u8
-        ensures { result ≡ data_type_number self }
-    {
-        match self {
-            DataType::AccessLatency => 0,
-            DataType::ReadLatency => 1,
-            DataType::WriteLatency => 2,
-            DataType::AccessBandwidth => 3,
-            DataType::ReadBandwidth => 4,
-            DataType::WriteBandwidth => 5,
-        }
+impl From<DataType> for u8 {
+    ghost from_gives = { λ data_type n. n ≡ data_type_number data_type };
+
+    fn from(data_type: DataType) -> u8 {
+        data_type as u8
     }
 }
 
@@ -251,24 +236,11 @@ pub enum MinTransferSize {
     Size64k,
 }
 
-impl MinTransferSize {
-    pub fn number(self) -> u8
-        ensures { result ≡ transfer_number self }
-    {
-        match self {
-            MinTransferSize::SizeByteAligned => 0,
-            MinTransferSize::Size64b => 1,
-            MinTransferSize::Size128b => 2,
-            MinTransferSize::Size256b => 3,
-            MinTransferSize::Size512b => 4,
-            MinTransferSize::Size1k => 5,
-            MinTransferSize::Size2k => 6,
-            MinTransferSize::Size4k => 7,
-            MinTransferSize::Size8k => 8,
-            MinTransferSize::Size16k => 9,
-            MinTransferSize::Size32k => 10,
-            MinTransferSize::Size64k => 11,
-        }
+impl From<MinTransferSize> for u8 {
+    ghost from_gives = { λ size n. n ≡ transfer_number size };
+
+    fn from(size: MinTransferSize) -> u8 {
+        size as u8
     }
 }
 
@@ -280,16 +252,11 @@ pub enum LocalityType {
     ThirdLevelCache,
 }
 
-impl LocalityType {
-    pub fn number(self) -> u8
-        ensures { result ≡ locality_number self }
-    {
-        match self {
-            LocalityType::Memory => 0,
-            LocalityType::FirstLevelCache => 1,
-            LocalityType::SecondLevelCache => 2,
-            LocalityType::ThirdLevelCache => 3,
-        }
+impl From<LocalityType> for u8 {
+    ghost from_gives = { λ locality n. n ≡ locality_number locality };
+
+    fn from(locality: LocalityType) -> u8 {
+        locality as u8
     }
 }
 
@@ -352,9 +319,7 @@ impl SystemLocality {
 
     pub const INITIATORS_AT: usize = 11;
 
-    // behind a count of one byte, or of two
-    const TARGETS_AT: usize = 12;
-
+    // behind a count of two bytes
     const WIDE_TARGETS_AT: usize = 13;
 
     // Kind, flags, data type, transfer size, unit, I, T.
@@ -376,9 +341,9 @@ impl SystemLocality {
         ensures { result ≡ matrix_of loc_type data_type min_transfer_size entry_base_unit num_initiators num_targets }
     {
         Self {
-            flags: loc_type.number(),
-            data_type: data_type.number(),
-            min_transfer_size: min_transfer_size.number(),
+            flags: u8::from(loc_type),
+            data_type: u8::from(data_type),
+            min_transfer_size: u8::from(min_transfer_size),
             entry_base_unit,
             initiators: num_initiators,
             targets: num_targets,
@@ -388,14 +353,14 @@ impl SystemLocality {
     pub fn non_sequential_transfers(mut self) -> Self
         ensures { result ≡ matrix_with 5 self }
     {
-        self.flags = self.flags | Self::NON_SEQUENTIAL_TRANSFERS;
+        self.flags |= Self::NON_SEQUENTIAL_TRANSFERS;
         self
     }
 
     pub fn minimum_transfer_size_required(mut self) -> Self
         ensures { result ≡ matrix_with 4 self }
     {
-        self.flags = self.flags | Self::MINIMUM_TRANSFER_SIZE_REQD;
+        self.flags |= Self::MINIMUM_TRANSFER_SIZE_REQD;
         self
     }
 
@@ -450,7 +415,7 @@ impl SystemLocality {
     {
         let values = Value::LEN * (self.initiators as usize + self.targets as usize);
         let cells = field::behind(0, Cell::LEN, self.cells());
-        let first = field::behind(at, values, 1);
+        let first = at.saturating_add(values);
         // its two bytes are alike
         let unset = (Self::UNREACHABLE_DOMAIN % 256) as u8;
         field::fill(out, at, values, 0);
@@ -461,7 +426,7 @@ impl SystemLocality {
     pub fn put(self, out: &mut [u8], at: usize)
         ensures { out.new ≡ over out.old at (bytes as_is (matrix_node self)) }
     {
-        let values = field::behind(at, Self::LEN, 1);
+        let values = at.saturating_add(Self::LEN);
         self.put_front(out, at);
         self.put_unset(out, values);
     }
@@ -470,7 +435,7 @@ impl SystemLocality {
     pub fn initiator_place(at: usize, idx: usize) -> usize
         ensures { result ≡ min (at + 32 + 4 * idx) (2 ^ 64 - 1) }
     {
-        field::behind(field::behind(at, Self::LEN, 1), Value::LEN, idx)
+        field::behind(at.saturating_add(Self::LEN), Value::LEN, idx)
     }
 
     pub fn target_place(at: usize, initiators: usize, idx: usize) -> usize
@@ -503,14 +468,14 @@ impl SystemLocality {
         ensures { out.new ≡ over out.old (at + 32 + 4 * idx) (le 4 value) }
     {
         let place = Self::initiator_place(at, idx);
-        field::put_u32(out, place, value);
+        field::put(out, place, value);
     }
 
     pub fn set_target_value(out: &mut [u8], at: usize, initiators: usize, idx: usize, value: u32)
         ensures { out.new ≡ over out.old (at + 32 + 4 * initiators + 4 * idx) (le 4 value) }
     {
         let place = Self::target_place(at, initiators, idx);
-        field::put_u32(out, place, value);
+        field::put(out, place, value);
     }
 
     pub fn set_entry_value(
@@ -525,7 +490,7 @@ impl SystemLocality {
         ensures { out.new ≡ over out.old (at + 32 + 4 * initiators + 4 * targets + 2 * (initiator_idx * targets + target_idx)) (le 2 value) }
     {
         let place = Self::cell_place(at, initiators, targets, initiator_idx, target_idx);
-        field::put_u16(out, place, value);
+        field::put(out, place, value);
     }
 
     // Reads the record at a place, without values and cells.
@@ -534,12 +499,12 @@ impl SystemLocality {
     {
         let s = field::rest(table, at);
         Self {
-            flags: field::get_u8(s, 8),
-            data_type: field::get_u8(s, 9),
-            min_transfer_size: field::get_u8(s, 10),
-            entry_base_unit: field::get_u64(s, 24),
-            initiators: field::get_u32(s, 12),
-            targets: field::get_u32(s, 16),
+            flags: field::get(s, 8),
+            data_type: field::get(s, 9),
+            min_transfer_size: field::get(s, 10),
+            entry_base_unit: field::get(s, 24),
+            initiators: field::get(s, 12),
+            targets: field::get(s, 16),
         }
     }
 
@@ -547,13 +512,13 @@ impl SystemLocality {
     pub fn initiator_value(table: &[u8], at: usize, idx: usize) -> u32
         ensures { result ≡ value (part table.now (at + 32 + 4 * idx) 4) }
     {
-        field::get_u32(table, Self::initiator_place(at, idx))
+        field::get::<u32>(table, Self::initiator_place(at, idx))
     }
 
     pub fn target_value(table: &[u8], at: usize, initiators: usize, idx: usize) -> u32
         ensures { result ≡ value (part table.now (at + 32 + 4 * initiators + 4 * idx) 4) }
     {
-        field::get_u32(table, Self::target_place(at, initiators, idx))
+        field::get::<u32>(table, Self::target_place(at, initiators, idx))
     }
 
     pub fn entry_value(
@@ -567,27 +532,22 @@ impl SystemLocality {
         ensures { result ≡ value (part table.now (at + 32 + 4 * initiators + 4 * targets + 2 * (initiator_idx * targets + target_idx)) 2) }
     {
         let place = Self::cell_place(at, initiators, targets, initiator_idx, target_idx);
-        field::get_u16(table, place)
+        field::get::<u16>(table, place)
     }
 
     // Whether both counts are up to a number.
     fn up_to(n: u32, initiators: u32, targets: u32) -> bool
         ensures { result ≡ up_to n initiators targets }
     {
-        if n < initiators {
-            return false;
-        }
-        targets <= n
+        initiators <= n && targets <= n
     }
 
     // Whether both counts are up to the most, and one is above what a byte counts: no matrix is in two rows.
     fn is_wide(initiators: u32, targets: u32) -> bool
         ensures { result ≡ counted form.pair initiators targets }
     {
-        if Self::up_to(Self::NARROW, initiators, targets) {
-            return false;
-        }
-        Self::up_to(Self::MAX_COUNT, initiators, targets)
+        !Self::up_to(Self::NARROW, initiators, targets)
+            && Self::up_to(Self::MAX_COUNT, initiators, targets)
     }
 
     // The Length column of the row, 6 or 12: more initiators or targets than the most make a record unknown, not faulty.
@@ -598,8 +558,8 @@ impl SystemLocality {
         if row.len() < Self::LEN {
             return false;
         }
-        let initiators = field::get_u32(row, 12);
-        let targets = field::get_u32(row, 16);
+        let initiators = field::get::<u32>(row, 12);
+        let targets = field::get::<u32>(row, 16);
         match width {
             Width::Byte => Self::up_to(Self::NARROW, initiators, targets),
             Width::Pair => Self::is_wide(initiators, targets),
@@ -610,19 +570,19 @@ impl SystemLocality {
     fn is_fixed(row: &[u8]) -> bool
         ensures { (w : form.Width) → result ≡ fixed_ok (layout (form_in (matrices w) row.now)) row.now }
     {
-        if field::get_u16(row, 0) != Self::TYPE {
+        if field::get::<u16>(row, 0) != Self::TYPE {
             return false;
         }
-        if field::get_u16(row, 2) != 0 {
+        if field::get::<u16>(row, 2) != 0 {
             return false;
         }
-        if field::get_u32(row, 4) as usize != Self::get(row, 0).len() {
+        if field::get::<u32>(row, 4) as usize != Self::get(row, 0).len() {
             return false;
         }
-        if field::get_u8(row, 11) != 0 {
+        if field::get::<u8>(row, 11) != 0 {
             return false;
         }
-        field::get_u32(row, 20) == 0
+        field::get::<u32>(row, 20) == 0
     }
 
     // The width of a recipe's normal form: one byte where that counts both.
@@ -649,10 +609,7 @@ impl SystemLocality {
     pub fn targets_at(width: Width) -> usize
         ensures { result ≡ 11 + octets (meant_width width) }
     {
-        match width {
-            Width::Byte => Self::TARGETS_AT,
-            Width::Pair => Self::WIDE_TARGETS_AT,
-        }
+        Self::INITIATORS_AT + width.octets()
     }
 
     // The node of a body, of which nothing is set.
@@ -660,10 +617,10 @@ impl SystemLocality {
         ensures { matrix_call result ≡ fields (body (Matrix (meant_width width))) bytes.now }
     {
         Self {
-            flags: field::get_u8(bytes, Self::FLAGS_AT),
-            data_type: field::get_u8(bytes, Self::DATA_TYPE_AT),
-            min_transfer_size: field::get_u8(bytes, Self::TRANSFER_SIZE_AT),
-            entry_base_unit: field::get_u64(bytes, Self::BASE_UNIT_AT),
+            flags: field::get(bytes, Self::FLAGS_AT),
+            data_type: field::get(bytes, Self::DATA_TYPE_AT),
+            min_transfer_size: field::get(bytes, Self::TRANSFER_SIZE_AT),
+            entry_base_unit: field::get(bytes, Self::BASE_UNIT_AT),
             initiators: width.get(bytes, Self::INITIATORS_AT) as u32,
             targets: width.get(bytes, Self::targets_at(width)) as u32,
         }
@@ -683,6 +640,7 @@ impl SystemLocality {
             self.initiators as u64,
             self.targets as u64,
         ];
+        // a call for each width: the compiler then knows the widths of the fields
         match width {
             Width::Byte => {
                 field::put_all(out, at, &Self::BODY_WIDTHS, &vs);
@@ -715,7 +673,7 @@ impl SystemLocality {
             self.targets as u64,
             self.entry_base_unit,
         ];
-        field::copy_u64(answer, at, &vs);
+        field::copy(answer, at, &vs);
     }
 
     // What the lowest two bits of the flags say: which level the matrix is about.
@@ -730,44 +688,38 @@ impl SystemLocality {
     fn is_good_flags(v: u8) -> bool
         ensures { result ≡ matrix_flags v }
     {
-        if v / 4 % 4 != 0 {
-            return false;
-        }
-        v < 64
+        v / 4 % 4 == 0 && v < 64
     }
 
-    // The place of the first field outside its range, counted from the kind byte; 0 for none.
+    // The place of the first field outside its range, counted from the kind byte.
     #[tactic(auto, unfolding(format::specs::Field::bad_field, format::specs::Field::first_bad, format::specs::Kind::body, format::specs::Form::ranges))]
-    pub fn bad_field(self) -> usize
-        ensures { result ≡ bad_field (matrix_head self) }
+    pub fn bad_field(self) -> Option<usize>
+        ensures { result ≡ place_or_none (bad_field (matrix_head self)) }
     {
         if !Self::is_good_flags(self.flags) {
-            return 1 + Self::FLAGS_AT;
+            return Some(1 + Self::FLAGS_AT);
         }
         if Self::MAX_DATA_TYPE < self.data_type {
-            return 1 + Self::DATA_TYPE_AT;
+            return Some(1 + Self::DATA_TYPE_AT);
         }
         if Self::MAX_TRANSFER_SIZE < self.min_transfer_size {
-            return 1 + Self::TRANSFER_SIZE_AT;
+            return Some(1 + Self::TRANSFER_SIZE_AT);
         }
         if Self::MAX_COUNT < self.initiators {
-            return 1 + Self::INITIATORS_AT;
+            return Some(1 + Self::INITIATORS_AT);
         }
         // more than the most is never counted in a byte: behind initiators of two
         if Self::MAX_COUNT < self.targets {
-            return 1 + Self::WIDE_TARGETS_AT;
+            return Some(1 + Self::WIDE_TARGETS_AT);
         }
-        0
+        None
     }
 
     // Whether a record is fixed where it has to be, and no field outside its range.
     pub fn is_sound(row: &[u8]) -> bool
         ensures { (w : form.Width) → result ≡ sound (form_in (matrices w) row.now) row.now }
     {
-        if !Self::is_fixed(row) {
-            return false;
-        }
-        Self::get(row, 0).bad_field() == 0
+        Self::is_fixed(row) && Self::get(row, 0).bad_field().is_none()
     }
 }
 
@@ -800,12 +752,8 @@ impl Value {
     // what is not set
     pub const UNSET: u32 = 0;
 
-    // Where the fields stand in a body: the number behind an index of one byte, or of two.
+    // Where the index stands in a body.
     pub const INDEX_AT: usize = 0;
-
-    const VALUE_AT: usize = 1;
-
-    const WIDE_VALUE_AT: usize = 2;
 
     // Kind, index, number.
     const BODY_WIDTHS: [usize; 3] = [1, 1, 4];
@@ -831,14 +779,11 @@ impl Value {
         }
     }
 
-    // Where the number stands in them.
+    // Where the number stands in a body: behind the index.
     pub fn value_at(width: Width) -> usize
         ensures { result ≡ octets (meant_width width) }
     {
-        match width {
-            Width::Byte => Self::VALUE_AT,
-            Width::Pair => Self::WIDE_VALUE_AT,
-        }
+        Self::INDEX_AT + width.octets()
     }
 
     // The value of a body.
@@ -847,7 +792,7 @@ impl Value {
     {
         Self {
             idx: width.get(bytes, Self::INDEX_AT),
-            value: field::get_u32(bytes, Self::value_at(width)),
+            value: field::get(bytes, Self::value_at(width)),
         }
     }
 
@@ -857,6 +802,7 @@ impl Value {
         ensures value { result ≡ length (value_call (meant_width width) kind self) }
     {
         let vs = [kind as u64, self.idx as u64, self.value as u64];
+        // a call for each width: the compiler then knows the widths of the fields
         match width {
             Width::Byte => {
                 field::put_all(out, at, &Self::BODY_WIDTHS, &vs);
@@ -869,15 +815,15 @@ impl Value {
         }
     }
 
-    // The place of the index where it is not below the count, from the kind byte; 0 where it is.
+    // The place of the index where it is not below the count, from the kind byte.
     #[tactic(auto, unfolding(format::specs::Field::first_bad, format::specs::Kind::body))]
-    pub fn bad_field(self, count: u32) -> usize
-        ensures { (w : form.Width) → result ≡ bad_in (Initiator w) (ltb self.idx count ∷ []) }
+    pub fn bad_field(self, count: u32) -> Option<usize>
+        ensures { (w : form.Width) → result ≡ place_or_none (bad_in (Initiator w) (ltb self.idx count ∷ [])) }
     {
         if count <= self.idx as u32 {
-            return 1 + Self::INDEX_AT;
+            return Some(1 + Self::INDEX_AT);
         }
-        0
+        None
     }
 }
 
@@ -902,16 +848,8 @@ impl Cell {
     // in a matrix's record
     pub const LEN: usize = 2;
 
-    // Where the fields stand in a body: the last two behind indices of one byte, or of two.
+    // Where the first index stands in a body.
     pub const INITIATOR_AT: usize = 0;
-
-    const TARGET_AT: usize = 1;
-
-    const WIDE_TARGET_AT: usize = 2;
-
-    const VALUE_AT: usize = 2;
-
-    const WIDE_VALUE_AT: usize = 4;
 
     // Kind, two indices, number.
     const BODY_WIDTHS: [usize; 4] = [1, 1, 1, 2];
@@ -939,23 +877,17 @@ impl Cell {
         }
     }
 
-    // Where the target and the number stand in them.
+    // Where the target and the number stand in a body: behind one index, and behind both.
     pub fn target_at(width: Width) -> usize
         ensures { result ≡ octets (meant_width width) }
     {
-        match width {
-            Width::Byte => Self::TARGET_AT,
-            Width::Pair => Self::WIDE_TARGET_AT,
-        }
+        Self::INITIATOR_AT + width.octets()
     }
 
     pub fn value_at(width: Width) -> usize
         ensures { result ≡ octets (meant_width width) + octets (meant_width width) }
     {
-        match width {
-            Width::Byte => Self::VALUE_AT,
-            Width::Pair => Self::WIDE_VALUE_AT,
-        }
+        Self::target_at(width) + width.octets()
     }
 
     // The cell of a body.
@@ -965,7 +897,7 @@ impl Cell {
         Self {
             initiator_idx: width.get(bytes, Self::INITIATOR_AT),
             target_idx: width.get(bytes, Self::target_at(width)),
-            value: field::get_u16(bytes, Self::value_at(width)),
+            value: field::get(bytes, Self::value_at(width)),
         }
     }
 
@@ -980,6 +912,7 @@ impl Cell {
             self.target_idx as u64,
             self.value as u64,
         ];
+        // a call for each width: the compiler then knows the widths of the fields
         match width {
             Width::Byte => {
                 field::put_all(out, at, &Self::BODY_WIDTHS, &vs);
@@ -992,25 +925,27 @@ impl Cell {
         }
     }
 
-    // The place of the first index that is not below its count, from the kind byte; 0 where both are.
+    // The place of the first index that is not below its count, from the kind byte.
     #[tactic(auto, unfolding(format::specs::Field::first_bad, format::specs::Kind::body))]
-    pub fn bad_field(self, width: Width, initiators: u32, targets: u32) -> usize
-        ensures { result ≡ bad_in (format.Cell (meant_width width)) (ltb self.initiator_idx initiators ∷ ltb self.target_idx targets ∷ []) }
+    pub fn bad_field(self, width: Width, initiators: u32, targets: u32) -> Option<usize>
+        ensures { result ≡ place_or_none (bad_in (format.Cell (meant_width width)) (ltb self.initiator_idx initiators ∷ ltb self.target_idx targets ∷ [])) }
     {
         if initiators <= self.initiator_idx as u32 {
-            return 1 + Self::INITIATOR_AT;
+            return Some(1 + Self::INITIATOR_AT);
         }
         if targets <= self.target_idx as u32 {
-            return 1 + Self::target_at(width);
+            return Some(1 + Self::target_at(width));
         }
-        0
+        None
     }
 
     // Whether the indices of a body are below I and T.
     fn is_inside(width: Width, bytes: &[u8], initiators: u32, targets: u32) -> bool
         ensures { result ≡ in_counts (meant_width width) bytes.now initiators targets }
     {
-        Self::from_body(width, bytes).bad_field(width, initiators, targets) == 0
+        Self::from_body(width, bytes)
+            .bad_field(width, initiators, targets)
+            .is_none()
     }
 
     // Whether the whole record of a cell of an I by T matrix stands at a place of a recipe. The window that is read has a length that the
@@ -1051,16 +986,11 @@ pub enum CacheLevel {
     Three,
 }
 
-impl CacheLevel {
-    pub fn number(self) -> u32
-        ensures { result ≡ level_number self }
-    {
-        match self {
-            CacheLevel::None => 0,
-            CacheLevel::One => 1,
-            CacheLevel::Two => 2,
-            CacheLevel::Three => 3,
-        }
+impl From<CacheLevel> for u32 {
+    ghost from_gives = { λ level n. n ≡ level_number level };
+
+    fn from(level: CacheLevel) -> u32 {
+        level as u32
     }
 }
 
@@ -1071,15 +1001,11 @@ pub enum Associativity {
     Complex,
 }
 
-impl Associativity {
-    pub fn number(self) -> u32
-        ensures { result ≡ associativity_number self }
-    {
-        match self {
-            Associativity::None => 0,
-            Associativity::DirectMapped => 1,
-            Associativity::Complex => 2,
-        }
+impl From<Associativity> for u32 {
+    ghost from_gives = { λ associativity n. n ≡ associativity_number associativity };
+
+    fn from(associativity: Associativity) -> u32 {
+        associativity as u32
     }
 }
 
@@ -1090,15 +1016,11 @@ pub enum WritePolicy {
     Writethrough,
 }
 
-impl WritePolicy {
-    pub fn number(self) -> u32
-        ensures { result ≡ policy_number self }
-    {
-        match self {
-            WritePolicy::None => 0,
-            WritePolicy::Writeback => 1,
-            WritePolicy::Writethrough => 2,
-        }
+impl From<WritePolicy> for u32 {
+    ghost from_gives = { λ policy n. n ≡ policy_number policy };
+
+    fn from(policy: WritePolicy) -> u32 {
+        policy as u32
     }
 }
 
@@ -1160,10 +1082,10 @@ impl MemorySideCache {
     ) -> Self
         ensures { result ≡ side_of proximity_domain cache_size total_cache_levels this_cache_level associativity write_policy cacheline_size }
     {
-        let attributes = total_cache_levels.number()
-            | (this_cache_level.number() << 4)
-            | (associativity.number() << 8)
-            | (write_policy.number() << 12)
+        let attributes = u32::from(total_cache_levels)
+            | (u32::from(this_cache_level) << 4)
+            | (u32::from(associativity) << 8)
+            | (u32::from(write_policy) << 12)
             | ((cacheline_size as u32) << 16);
         Self {
             proximity_domain,
@@ -1201,7 +1123,7 @@ impl MemorySideCache {
     fn handle_place(at: usize, i: usize) -> usize
         ensures { result ≡ min (at + 32 + 2 * i) (2 ^ 64 - 1) }
     {
-        field::behind(field::behind(at, Self::LEN, 1), SmbiosHandle::LEN, i)
+        field::behind(at.saturating_add(Self::LEN), SmbiosHandle::LEN, i)
     }
 
     // Writes a handle of the side cache at a place.
@@ -1209,7 +1131,7 @@ impl MemorySideCache {
         ensures { out.new ≡ over out.old (at + 32 + 2 * i) (le 2 handle) }
     {
         let place = Self::handle_place(at, i);
-        field::put_u16(out, place, handle);
+        field::put(out, place, handle);
     }
 
     // Whether a record of n handles takes no more.
@@ -1224,12 +1146,12 @@ impl MemorySideCache {
         ensures { out.new ≡ grown out.old at n handle.0 }
     {
         let more = n as u32 + 1;
-        field::put_u32(
+        field::put(
             out,
-            field::behind(at, 4, 1),
+            at.saturating_add(4),
             Self::LEN as u32 + SmbiosHandle::LEN as u32 * more,
         );
-        field::put_u16(out, field::behind(at, 30, 1), (more % 65536) as u16);
+        field::put(out, at.saturating_add(30), (more % 65536) as u16);
         Self::put_handle(out, at, n as usize, handle.0);
     }
 
@@ -1239,10 +1161,10 @@ impl MemorySideCache {
     {
         let s = field::rest(table, at);
         Self {
-            proximity_domain: field::get_u32(s, 8),
-            cache_size: field::get_u64(s, 16),
-            attributes: field::get_u32(s, 24),
-            smbios_handles: field::get_u16(s, 30),
+            proximity_domain: field::get(s, 8),
+            cache_size: field::get(s, 16),
+            attributes: field::get(s, 24),
+            smbios_handles: field::get(s, 30),
         }
     }
 
@@ -1250,7 +1172,7 @@ impl MemorySideCache {
     pub fn smbios_handle(table: &[u8], at: usize, i: usize) -> SmbiosHandle
         ensures { result.0 ≡ value (part table.now (at + 32 + 2 * i) 2) }
     {
-        SmbiosHandle(field::get_u16(table, Self::handle_place(at, i)))
+        SmbiosHandle(field::get(table, Self::handle_place(at, i)))
     }
     // The Length column of the row.
     #[tactic(auto, unfolding(format::specs::Row::column))]
@@ -1264,19 +1186,19 @@ impl MemorySideCache {
     fn is_fixed(row: &[u8]) -> bool
         ensures { result ≡ fixed_ok (layout (form_in sides row.now)) row.now }
     {
-        if field::get_u16(row, 0) != Self::TYPE {
+        if field::get::<u16>(row, 0) != Self::TYPE {
             return false;
         }
-        if field::get_u16(row, 2) != 0 {
+        if field::get::<u16>(row, 2) != 0 {
             return false;
         }
-        if field::get_u32(row, 4) as usize != Self::get(row, 0).len() {
+        if field::get::<u32>(row, 4) as usize != Self::get(row, 0).len() {
             return false;
         }
-        if field::get_u32(row, 12) != 0 {
+        if field::get::<u32>(row, 12) != 0 {
             return false;
         }
-        field::get_u16(row, 28) == 0
+        field::get::<u16>(row, 28) == 0
     }
 
     // The node of a body.
@@ -1284,9 +1206,9 @@ impl MemorySideCache {
         ensures { side_head result ≡ node (side 0) (fields (body Side) bytes.now) }
     {
         Self {
-            proximity_domain: field::get_u32(bytes, Self::DOMAIN_AT),
-            cache_size: field::get_u64(bytes, Self::SIZE_AT),
-            attributes: field::get_u32(bytes, Self::ATTRIBUTES_AT),
+            proximity_domain: field::get(bytes, Self::DOMAIN_AT),
+            cache_size: field::get(bytes, Self::SIZE_AT),
+            attributes: field::get(bytes, Self::ATTRIBUTES_AT),
             smbios_handles: 0,
         }
     }
@@ -1316,7 +1238,7 @@ impl MemorySideCache {
             self.attributes as u64,
             self.smbios_handles as u64,
         ];
-        field::copy_u64(answer, at, &vs);
+        field::copy(answer, at, &vs);
     }
 
     // The parts of the attributes: levels, associativity and policy, four bits each, and the line size.
@@ -1367,25 +1289,22 @@ impl MemorySideCache {
         self.write_policy() <= Self::MAX_POLICY
     }
 
-    // The place of the first field outside its range, counted from the kind byte; 0 for none.
+    // The place of the first field outside its range, counted from the kind byte.
     #[tactic(auto, unfolding(format::specs::Field::bad_field, format::specs::Field::first_bad, format::specs::Kind::body, format::specs::Form::ranges))]
-    pub fn bad_field(self) -> usize
-        ensures { result ≡ bad_field (side_head self) }
+    pub fn bad_field(self) -> Option<usize>
+        ensures { result ≡ place_or_none (bad_field (side_head self)) }
     {
         if !self.is_good_attributes() {
-            return 1 + Self::ATTRIBUTES_AT;
+            return Some(1 + Self::ATTRIBUTES_AT);
         }
-        0
+        None
     }
 
     // Whether a record is fixed where it has to be, and no field outside its range.
     pub fn is_sound(row: &[u8]) -> bool
         ensures { result ≡ sound (form_in sides row.now) row.now }
     {
-        if !Self::is_fixed(row) {
-            return false;
-        }
-        Self::get(row, 0).bad_field() == 0
+        Self::is_fixed(row) && Self::get(row, 0).bad_field().is_none()
     }
 }
 
@@ -1412,7 +1331,7 @@ impl SmbiosHandle {
     pub fn from_body(bytes: &[u8]) -> Self
         ensures { handle_fields result ≡ fields (body format.Handle) bytes.now }
     {
-        Self(field::get_u16(bytes, Self::HANDLE_AT))
+        Self(field::get(bytes, Self::HANDLE_AT))
     }
 
     // Writes kind byte and body; how many bytes that is.

@@ -144,7 +144,7 @@ value-byte (x ∷ xs) (suc p) = value-byte xs p
 
 -- ---- a list laid over another
 
-pub length_over : (bs : List ℕ) (p : ℕ) (cs : List ℕ) → length (over bs p cs) ≡ length bs
+pub length_over : {A : Type 0} (bs : List A) (p : ℕ) (cs : List A) → length (over bs p cs) ≡ length bs
 unfolding over
 length_over [] p cs = refl
 length_over (b ∷ bs) (suc p) cs = ap suc (length_over bs p cs)
@@ -156,7 +156,7 @@ peel : (a b m : ℕ) → min (suc a) (suc m - 0) ≡ min (suc b) (suc m - 0) →
 peel a b m h = omega arith
 
 -- one list laid behind another, or behind what fits of it
-pub over-behind : (bs : List ℕ) (p : ℕ) (xs ys : List ℕ) (n : ℕ) → min n (length bs - p) ≡ min (length xs) (length bs - p)
+pub over-behind : {A : Type 0} (bs : List A) (p : ℕ) (xs ys : List A) (n : ℕ) → min n (length bs - p) ≡ min (length xs) (length bs - p)
     → over (over bs p xs) (p + n) ys ≡ over bs p (xs ++ ys)
 unfolding over
 over-behind [] p xs ys n e = refl
@@ -167,7 +167,7 @@ over-behind (b ∷ bs) zero (x ∷ xs) ys (suc n) e =
     let s : 0 + suc n ≡ suc (0 + n) = omega arith in
     rw (s, over-behind bs zero xs ys n (peel n (length xs) (length bs) e))
 
-pub over-over : (bs : List ℕ) (p : ℕ) (xs ys : List ℕ) → over (over bs p xs) (p + length xs) ys ≡ over bs p (xs ++ ys)
+pub over-over : {A : Type 0} (bs : List A) (p : ℕ) (xs ys : List A) → over (over bs p xs) (p + length xs) ys ≡ over bs p (xs ++ ys)
 over-over bs p xs ys = over-behind bs p xs ys (length xs) refl
 
 -- a call that lays one list behind what is laid already
@@ -176,14 +176,14 @@ pub over-next : (bs : List ℕ) (p : ℕ) (xs os : List ℕ) (n : ℕ) (ys ps : 
 over-next bs p xs os n ys ps e f h = rw (f, e, h, over-over)
 
 -- nothing to lay down, or nothing to lay it over
-pub over_none : (bs : List ℕ) (p : ℕ) (cs : List ℕ) → min (length cs) (length bs - p) ≡ 0 → over bs p cs ≡ bs
+pub over_none : {A : Type 0} (bs : List A) (p : ℕ) (cs : List A) → min (length cs) (length bs - p) ≡ 0 → over bs p cs ≡ bs
 unfolding over
 over_none [] p cs h = refl
 over_none (b ∷ bs) (suc p) cs h = rw (over_none bs p cs (omega arith))
 over_none (b ∷ bs) zero [] h = refl
 over_none (b ∷ bs) zero (c ∷ cs) h = absurd (omega arith)
 
-pub over-past : (bs : List ℕ) (p : ℕ) (cs : List ℕ) → length bs ≤ p → over bs p cs ≡ bs
+pub over-past : {A : Type 0} (bs : List A) (p : ℕ) (cs : List A) → length bs ≤ p → over bs p cs ≡ bs
 over-past bs p cs h = over_none bs p cs (omega arith)
 
 -- one byte laid down
@@ -202,11 +202,11 @@ pub over-turn : (bs : List ℕ) (p i c : ℕ) (cs ds : List ℕ) → ds ≡ c �
 over-turn bs p i c cs ds e = rw (e, over-one, ← add_assoc p i 1) (over-over bs (p + i) (c ∷ []) cs)
 
 -- what would reach past the end does not matter
-pub over-cut : (bs : List ℕ) (p : ℕ) (xs ys : List ℕ) → length bs ≤ p + length xs → over bs p (xs ++ ys) ≡ over bs p xs
+pub over-cut : {A : Type 0} (bs : List A) (p : ℕ) (xs ys : List A) → length bs ≤ p + length xs → over bs p (xs ++ ys) ≡ over bs p xs
 over-cut bs p xs ys h = rw (← over-over, over-past (over bs p xs) (p + length xs) ys (rw length_over h))
 
 -- where all of it fits, the rest stays
-pub over-fits : (bs : List ℕ) (p : ℕ) (cs : List ℕ) → p + length cs ≤ length bs → over bs p cs ≡ take p bs ++ (cs ++ drop (p + length cs) bs)
+pub over-fits : {A : Type 0} (bs : List A) (p : ℕ) (cs : List A) → p + length cs ≤ length bs → over bs p cs ≡ take p bs ++ (cs ++ drop (p + length cs) bs)
 unfolding over
 over-fits [] p [] h = rw (take-nil, drop-nil)
 over-fits [] p (c ∷ cs) h = absurd (omega arith)
@@ -215,7 +215,7 @@ over-fits (b ∷ bs) zero [] h = refl
 over-fits (b ∷ bs) zero (c ∷ cs) h = rw (over-fits bs zero cs (omega arith), zero-add, zero-add)
 
 -- a list laid over the whole of another
-pub over-all : (bs cs : List ℕ) → length cs ≡ length bs → over bs 0 cs ≡ cs
+pub over-all : {A : Type 0} (bs cs : List A) → length cs ≡ length bs → over bs 0 cs ≡ cs
 over-all bs cs e = rw (over-fits bs 0 cs (omega arith), zero-add, e, drop-length, append-nil)
 
 -- a number laid down in two parts
@@ -228,7 +228,7 @@ unfolding value over
 padded-take xs n zero h = refl
 padded-take xs zero (suc w) h = absurd (omega arith)
 padded-take [] (suc n) (suc w) h =
-    omega (arith, rw (over_none (replicate n 0) 0 [] (omega arith), take-nil) at (padded-take [] n w (omega arith)))
+    omega (arith, rw (over_none {A = ℕ} (replicate n 0) 0 [] (omega arith), take-nil) at (padded-take [] n w (omega arith)))
 padded-take (x ∷ xs) (suc n) (suc w) h = rw (padded-take xs n w (omega arith))
 
 -- zeros behind the bytes of a number do not change it
@@ -246,7 +246,7 @@ join-turn bs ws vs os p i n h k e f =
     let l : length (le (at ws i) (at vs i)) ≡ at ws i = length-le (at ws i) (at vs i) in
     rw (e, over-behind bs p (le (at ws i) (at vs i)) (join (drop (i + 1) ws) (drop (i + 1) vs)) n (omega arith), drop-turn ws i h, drop-turn vs i k)
 
-join-none : (ws vs : List ℕ) → min (length vs) (length ws) ≡ 0 → join ws vs ≡ []
+pub join-none : (ws vs : List ℕ) → min (length vs) (length ws) ≡ 0 → join ws vs ≡ []
 unfolding join
 join-none [] vs h = refl
 join-none (w ∷ ws) [] h = refl

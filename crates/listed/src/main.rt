@@ -11,23 +11,19 @@ fn show(rt: &HostRuntime, path: &[u8]) -> io::Result<()> {
     let Some(n) = prints::read_named(rt, path, &mut space)? else {
         return Ok(());
     };
-    let mut text = prints::room();
+    let mut text = prints::room::<{ prints::ROOM }>();
     let m = lists::lines(field::part(&space, 0, n), &mut text);
     prints::write_first(rt, &text, m)
 }
 
-fn argument(rt: &HostRuntime, i: usize) -> io::Result<()> {
-    let mut path = [0u8; 4096];
-    let n = prints::argument(rt, i, &mut path);
-    show(rt, &path[..n])
-}
-
 fn main(rt: HostRuntime) -> io::Result<()> {
+    let mut path = [0u8; 4096];
     for i in 1..usize::MAX {
         if !prints::has_argument(&rt, i) {
             break;
         }
-        argument(&rt, i)?;
+        let n = prints::argument(&rt, i, &mut path);
+        show(&rt, &path[..n])?;
     }
     Ok(())
 }

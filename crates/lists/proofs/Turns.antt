@@ -7,30 +7,12 @@ use lib.ListN.{length}
 use Rattle.format.specs.Bytes.{Answer, refused, given}
 use Rattle.format.specs.Read.{Seen, accept, reading_of}
 use Rattle.format.specs.Out.{every}
-use Rattle.format.specs.Listing.{whether, refused_words, first_line, record_line, record_lines, lines_of}
+use Rattle.format.specs.Listing.{refused_words, first_line, record_line, record_lines, lines_of}
 use Rattle.laws.proofs.Finds.{then-given}
-use Rattle.read.specs.declared.Node.{Node}
-use Rattle.read.specs.declared.Node.TheVariants.{Processor, Cache, Memory, Initiator, OldRintc, Domain, Matrix, Side, Bridge, Window, Xor, Rintc, Unknown}
 use Rattle.read.specs.declared.Shown.{Shown}
 use Rattle.read.specs.Answers.{row_in, shown_as}
 use Rattle.read.specs.Places.{counted, seen_at, first_place, seen_from}
 use Rattle.read.proofs.Listing.{shown-next, all-records}
-
--- each node but Unknown is known
-pub known-line : (n : Node) → (n ≡ Unknown → ⊥) → whether (row_in n) ≡ 32 ∷ 107 ∷ 110 ∷ 111 ∷ 119 ∷ 110 ∷ 10 ∷ []
-known-line (Processor n) h = refl
-known-line (Cache n) h = refl
-known-line (Memory n) h = refl
-known-line (Initiator n) h = refl
-known-line (OldRintc n) h = refl
-known-line (Domain n) h = refl
-known-line (Matrix n) h = refl
-known-line (Side n) h = refl
-known-line (Bridge n) h = refl
-known-line (Window n) h = refl
-known-line (Xor n) h = refl
-known-line (Rintc n) h = refl
-known-line Unknown h = absurd (h refl)
 
 -- the line of what is seen
 abbrev pub line_of : Seen → List ℕ

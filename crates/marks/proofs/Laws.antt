@@ -8,29 +8,24 @@ use lib.Dec.{eqb, ltb, leb}
 use lib.ListN.{length, replicate, set}
 use lib.Seq.{get_or-set_same, get_or-set_other}
 use borrow.Author.Tests.{eqb-true, eqb-false, ltb-false, leb-false}
+use Rattle.std.specs.Prelude.{Option, None, Some}
 use Rattle.format.specs.Bytes.{pick, at}
 use Rattle.marks.specs.declared.Mark.{Mark}
-use Rattle.marks.specs.Marks.{kept, mark_in, slot, under, from_mark, noted, toward_node, toward_place, Every}
+use Rattle.marks.specs.Marks.{kept, mark_in, slot, under, there, from_mark, noted, toward_node, toward_place, Every}
 
 -- ---- where a walk starts
 
--- a mark that is none, one that is past, and one that serves
-pub from-none : (first m : Mark) (past : Bool) → m.place ≡ 0 → from_mark first m past ≡ first
-from-none first m past e = rw e
+-- a walk starts at the mark that there is, unless it is past
+abbrev pub start_at : Mark → (Mark → Bool) → Option Mark → Mark
+start_at first past None = first
+start_at first past (Some m) = pick (past m) first m
 
-pub from_past : (first m : Mark) → from_mark first m true ≡ first
-from_past first m = by (eqb m.place 0)
+pub from_there : (first m : Mark) (past : Mark → Bool) → from_mark first m (past m) ≡ start_at first past (there m)
+from_there first m past = by (eqb m.place 0)
   where
-    by : (b : Bool) → pick b first first ≡ first
+    by : (b : Bool) → pick b first (pick (past m) first m) ≡ start_at first past (pick b None (Some m))
     by true = refl
     by false = refl
-
-pub from-here : (first m : Mark) → (m.place ≡ 0 → ⊥) → from_mark first m false ≡ m
-from-here first m z = by (eqb m.place 0) refl
-  where
-    by : (b : Bool) → eqb m.place 0 ≡ b → pick b first m ≡ m
-    by true e = absurd (z (eqb-true m.place 0 e))
-    by false e = refl
 
 -- what holds of the first and of the mark, where there is one that is not past, holds of the start
 pub start-keeps : (P : Mark → Type 0) (first m : Mark) (past : Bool) → P first → ((m.place ≡ 0 → ⊥) → past ≡ false → P m) → P (from_mark first m past)

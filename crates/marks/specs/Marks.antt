@@ -1,5 +1,5 @@
 -- What marks do: how many keys share one, where a walk starts, and which mark is set.
-use Rattle.std.specs.Prelude.{◌≡◌, ℕ, zero, suc, ◌+◌, ◌*◌, ◌/◌, ◌%◌, ◌^◌, List, Bool, length, set, eqb, ltb, leb}
+use Rattle.std.specs.Prelude.{◌≡◌, ℕ, zero, suc, ◌+◌, ◌*◌, ◌/◌, ◌%◌, ◌^◌, List, Bool, length, set, eqb, ltb, leb, Option, Some, None}
 use Rattle.format.specs.Bytes.{pick, at}
 use Rattle.format.specs.Table.{Table, front}
 use Rattle.marks.specs.declared.Mark.{Mark}
@@ -33,6 +33,10 @@ noted m shift key ms =
 -- the mark under a key; past the last one none
 unfoldable pub under : List ℕ → ℕ → ℕ → Mark
 under ms shift key = mark_in (at ms (slot shift key))
+
+-- a mark, unless its place says that it is none
+abbrev pub there : Mark → Option Mark
+there m = pick (eqb m.place 0) None (Some m)
 
 -- a mark, unless it is none or past what is looked for: then the first
 abbrev pub from_mark : Mark → Mark → Bool → Mark

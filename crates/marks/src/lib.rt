@@ -5,7 +5,8 @@
 
 ghost use Rattle.std.specs.Prelude.{◌≡◌, ◌-◌};
 ghost use Rattle.format.specs.Table.{pptt};
-ghost use Rattle.marks.specs.Marks.{first_mark, spread_of, kept, mark_in, noted, under, toward_node, toward_place};
+ghost use Rattle.std.specs.Prelude.{replicate};
+ghost use Rattle.marks.specs.Marks.{first_mark, spread_of, kept, mark_in, there, noted, under, toward_node, toward_place};
 
 use header::Table;
 
@@ -26,29 +27,17 @@ pub struct Mark {
     pub place: u32,
 }
 
-// The last of n keys.
-fn last_of(n: usize) -> usize
-    ensures { result ≡ n - 1 }
-{
-    if n == 0 {
-        return 0;
-    }
-    n - 1
-}
-
 // The least shift that makes n keys no more than so many, as far as a word reaches.
 pub fn spread(n: usize, count: usize) -> u32
     ensures { result ≡ spread_of 63 0 (n - 1) count }
 {
-    let last = last_of(n);
-    let mut shift: u32 = 0;
-    while shift < 63 {
+    let last = n.saturating_sub(1);
+    for shift in 0..63 {
         if last >> shift < count {
             return shift;
         }
-        shift += 1;
     }
-    shift
+    63
 }
 
 impl Mark {
@@ -69,65 +58,78 @@ impl Mark {
         self.nodes as u64 * 4294967296 + self.place as u64
     }
 
-    fn of(number: u64) -> Self
-        ensures { result ≡ mark_in number }
+    fn of(number: u64) -> Option<Self>
+        ensures { result ≡ there (mark_in number) }
+    {
+        let place = (number % 4294967296) as u32;
+        if place == 0 {
+            return None;
+        }
+        Some(Self {
+            nodes: (number / 4294967296) as u32,
+            place,
+        })
+    }
+}
+
+// The marks of a pass, each in one number, and by how many bits their keys are shifted. An Option<Mark> would take half as much stack again.
+#[derive(Drop)]
+pub struct Marks<const N: usize> {
+    pub slots: [u64; N],
+    pub shift: u32,
+}
+
+impl<const N: usize> Marks<N> {
+    // No mark yet, for so many keys.
+    pub fn none(keys: usize) -> Self
+        ensures slots { result.slots ≡ replicate N 0 }
+        ensures shift { result.shift ≡ spread_of 63 0 (keys - 1) N }
     {
         Self {
-            nodes: (number / 4294967296) as u32,
-            place: (number % 4294967296) as u32,
+            slots: [0; N],
+            shift: spread(keys, N),
         }
     }
 
-    // Keeps the mark under a key, unless one is kept there: the first of those that share it serves them all.
-    pub fn note(self, marks: &mut [u64], shift: u32, key: usize)
-        ensures { marks.new ≡ noted self shift key marks.old }
+    // Keeps a mark under a key, unless one is kept there: the first of those that share it serves them all.
+    #[tactic(auto, unfolding(crate::specs::Marks::noted))]
+    pub fn note(&mut self, mark: Mark, key: usize)
+        ensures slots { self.new.slots ≡ noted mark self.old.shift key self.old.slots }
+        ensures shift { self.new.shift ≡ self.old.shift }
     {
-        let i = key >> (shift % 64);
-        if marks.len() <= i {
-            return;
+        let i = key >> (self.shift % 64);
+        if i < N && self.slots[i] == 0 {
+            self.slots[i] = mark.kept();
         }
-        if marks[i] != 0 {
-            return;
-        }
-        marks[i] = self.kept();
     }
 
     // The mark under a key.
-    fn under(marks: &[u64], shift: u32, key: usize) -> Self
-        ensures { result ≡ under marks.now shift key }
+    #[tactic(auto, unfolding(crate::specs::Marks::under))]
+    fn under(&self, key: usize) -> Option<Mark>
+        ensures { result ≡ there (under self.now.slots self.now.shift key) }
     {
-        let i = key >> (shift % 64);
-        if marks.len() <= i {
-            return Self::of(0);
-        }
-        Self::of(marks[i])
+        Mark::of(*self.slots.get(key >> (self.shift % 64))?)
     }
 
     // From where to walk to node i, counted from 0: from the mark under its number, unless there is none or it is past it; then from here.
-    pub fn toward_node(self, marks: &[u64], shift: u32, i: u32) -> Self
-        ensures { result ≡ toward_node self shift i marks.now }
+    #[tactic(auto, using(crate::proofs::Laws::from_there), unfolding(crate::specs::Marks::toward_node))]
+    pub fn toward_node(&self, from: Mark, i: u32) -> Mark
+        ensures { result ≡ toward_node from self.now.shift i self.now.slots }
     {
-        let mark = Self::under(marks, shift, i as usize);
-        if mark.place == 0 {
-            return self;
+        match self.under(i as usize) {
+            Some(mark) if mark.nodes <= i => mark,
+            _ => from,
         }
-        if i < mark.nodes {
-            return self;
-        }
-        mark
     }
 
     // The same to a place, from the mark under it.
-    pub fn toward_place(self, marks: &[u64], shift: u32, v: usize) -> Self
-        ensures { result ≡ toward_place self shift v marks.now }
+    #[tactic(auto, using(crate::proofs::Laws::from_there), unfolding(crate::specs::Marks::toward_place))]
+    pub fn toward_place(&self, from: Mark, v: usize) -> Mark
+        ensures { result ≡ toward_place from self.now.shift v self.now.slots }
     {
-        let mark = Self::under(marks, shift, v);
-        if mark.place == 0 {
-            return self;
+        match self.under(v) {
+            Some(mark) if mark.place as usize <= v => mark,
+            _ => from,
         }
-        if v < mark.place as usize {
-            return self;
-        }
-        mark
     }
 }

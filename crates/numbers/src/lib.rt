@@ -28,9 +28,12 @@ fn matrix_row(width: Width) -> u64
 }
 
 // The number of a record's row.
-pub fn row_number(node: Node) -> u64
+pub fn row_number(node: Option<Node>) -> u64
     ensures { result ≡ row_as (row_in node) }
 {
+    let Some(node) = node else {
+        return UNKNOWN;
+    };
     match node {
         Node::Processor(_) => 0,
         Node::Cache(_) => 1,
@@ -44,14 +47,16 @@ pub fn row_number(node: Node) -> u64
         Node::Window(_) => 9,
         Node::Xor(_) => 10,
         Node::Rintc(_) => 11,
-        Node::Unknown => UNKNOWN,
     }
 }
 
 // The fields of a record, from a place on.
-pub fn put_fields(node: Node, answer: &mut [u64], at: usize)
+pub fn put_fields(node: Option<Node>, answer: &mut [u64], at: usize)
     ensures { answer.new ≡ over answer.old at (fields_in node) }
 {
+    let Some(node) = node else {
+        return;
+    };
     match node {
         Node::Processor(n) => n.put_fields(answer, at),
         Node::Cache(n) => n.put_fields(answer, at),
@@ -65,14 +70,16 @@ pub fn put_fields(node: Node, answer: &mut [u64], at: usize)
         Node::Window(n) => n.put_fields(answer, at),
         Node::Xor(n) => n.put_fields(answer, at),
         Node::Rintc(n) => n.put_fields(answer, at),
-        Node::Unknown => {}
     }
 }
 
 // How many fields a record has.
-pub fn fields_count(node: Node) -> usize
+pub fn fields_count(node: Option<Node>) -> usize
     ensures { result ≡ length (fields_in node) }
 {
+    let Some(node) = node else {
+        return 0;
+    };
     match node {
         Node::Processor(_) => ProcessorNode::FIELDS,
         Node::Cache(_) => CacheNode::FIELDS,
@@ -86,6 +93,5 @@ pub fn fields_count(node: Node) -> usize
         Node::Window(_) => CxlFixedMemory::FIELDS,
         Node::Xor(_) => XorInterleaveMath::FIELDS,
         Node::Rintc(_) => RintcAffinity::FIELDS,
-        Node::Unknown => 0,
     }
 }

@@ -13,7 +13,9 @@ use Rattle.pptt.specs.declared.ProcessorNode.{ProcessorNode}
 use Rattle.pptt.specs.declared.Resource.{Resource}
 use Rattle.pptt.specs.declared.CacheNode.{CacheNode}
 use Rattle.pptt.specs.Processor.{processor_shown, processor_node, processor_of, resource_fields}
-use Rattle.pptt.specs.Cache.{cache_shown, cache_node}
+use Rattle.pptt.specs.declared.CacheNodeBuilder.{CacheNodeBuilder}
+use lib.ListN.{replicate}
+use Rattle.pptt.specs.Cache.{cache_shown, cache_node, cache_of, made, builder_of}
 use Rattle.pptt.proofs.ProcessorNode.new.Reads as ProcessorNode-new
 use Rattle.pptt.proofs.ProcessorNode.physical.Reads as ProcessorNode-physical
 use Rattle.pptt.proofs.ProcessorNode.valid.Reads as ProcessorNode-valid
@@ -37,7 +39,7 @@ use Rattle.pptt.proofs.ProcessorNode.parent_of.Reads as ProcessorNode-parent-of
 use Rattle.pptt.proofs.ProcessorNode.resource.Reads as ProcessorNode-resource
 use Rattle.pptt.proofs.Resource.from_body.Reads as Resource-from-body
 use Rattle.pptt.proofs.Resource.put_body.Reads as Resource-put-body
-use Rattle.pptt.proofs.CacheNodeBuilder.default.Reads as CacheNodeBuilder-default
+use Rattle.pptt.proofs.CacheNodeBuilderDefault.default.Reads as CacheNodeBuilder-default
 use Rattle.pptt.proofs.CacheNodeBuilder.next_level.Reads as CacheNodeBuilder-next-level
 use Rattle.pptt.proofs.CacheNodeBuilder.size.Reads as CacheNodeBuilder-size
 use Rattle.pptt.proofs.CacheNodeBuilder.sets.Reads as CacheNodeBuilder-sets
@@ -86,9 +88,9 @@ one-level = sole-meant (λ (h : CacheHandle). h.0) (λ n. record { 0 = n }) (λ 
 one-resource : (a b : Resource) (vs : List ℕ) → resource_fields a ≡ vs → resource_fields b ≡ vs → a ≡ b
 one-resource = sole-meant resource_fields (λ vs. record { cache = record { 0 = at vs 0 } }) (λ r. refl)
 
-abbrev cache_of : List ℕ → CacheNode
-cache_of vs =
-    record { flags = at vs 0; next_level = record { 0 = at vs 1 }; size = at vs 2; set_count = at vs 3; associativity = at vs 4; attributes = at vs 5; line_size = at vs 6; id = at vs 7 }
+-- `CacheNodeBuilder::default`: each value is 0
+one-builder : (a b : CacheNodeBuilder) (vs : List ℕ) → made a ≡ vs → made b ≡ vs → a ≡ b
+one-builder = sole-meant made builder_of (λ b. refl)
 
 -- `CacheNodeBuilder::to_node`
 one-made : (a b : CacheNode) (vs : List ℕ) → cache_shown a ≡ vs → cache_shown b ≡ vs → a ≡ b
@@ -177,7 +179,7 @@ unique =
       ProcessorNode-resource = λ k a x y p q. sole;
       Resource-from-body = λ k a x y p q. one-resource x y _;
       Resource-put-body = λ k a x y p q l m. sole-pair (sole l.1 m.1) (sole l.0 m.0);
-      CacheNodeBuilder-default = λ k a x y p q. sole;
+      CacheNodeBuilder-default = λ k a x y p q l m. one-builder x y (replicate 8 0) (cc) (cc);
       CacheNodeBuilder-next-level = λ k a x y p q. sole;
       CacheNodeBuilder-size = λ k a x y p q. sole;
       CacheNodeBuilder-sets = λ k a x y p q. sole;

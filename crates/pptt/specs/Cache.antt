@@ -26,14 +26,18 @@ abbrev pub cache_before : CacheNode → CacheHandle → CacheNode
 cache_before n h =
     record { flags = n.flags; next_level = h; size = n.size; set_count = n.set_count; associativity = n.associativity; attributes = n.attributes; line_size = n.line_size; id = n.id }
 
+-- the cache of eight values
+abbrev pub cache_of : List ℕ → CacheNode
+cache_of vs =
+    record { flags = at vs 0; next_level = record { 0 = at vs 1 }; size = at vs 2; set_count = at vs 3; associativity = at vs 4; attributes = at vs 5; line_size = at vs 6; id = at vs 7 }
+
 -- the values that a builder has
 abbrev pub made : CacheNodeBuilder → List ℕ
-made b = b.flags ∷ b.next_level.0 ∷ b.size ∷ b.set_count ∷ b.associativity ∷ b.attributes ∷ b.line_size ∷ b.id ∷ []
+made b = cache_shown b.node
 
 -- the builder of eight values
 abbrev pub builder_of : List ℕ → CacheNodeBuilder
-builder_of vs =
-    record { flags = at vs 0; next_level = record { 0 = at vs 1 }; size = at vs 2; set_count = at vs 3; associativity = at vs 4; attributes = at vs 5; line_size = at vs 6; id = at vs 7 }
+builder_of vs = record { node = cache_of vs }
 
 -- value k is v; the rest stays
 abbrev pub holding : ℕ → ℕ → CacheNodeBuilder → CacheNodeBuilder
@@ -41,7 +45,7 @@ holding k v b = builder_of (set (made b) k v)
 
 -- the same, and flag bit j is on
 abbrev pub noted : ℕ → ℕ → ℕ → CacheNodeBuilder → CacheNodeBuilder
-noted j k v b = holding 0 (bit_or b.flags (2 ^ j)) (holding k v b)
+noted j k v b = holding 0 (bit_or b.node.flags (2 ^ j)) (holding k v b)
 
 -- in the attributes: bits 0..1
 abbrev pub allocation_bits : AllocationType → ℕ

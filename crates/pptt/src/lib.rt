@@ -16,6 +16,7 @@ ghost use Rattle.format.specs.Normal.{call, calls_of_node};
 ghost use Rattle.format.specs.Field.{bad_field};
 ghost use Rattle.format.specs.Row.{processors, column, form_in};
 ghost use Rattle.format.specs.Read.{sound};
+ghost use Rattle.field.specs.Place.{place_or_none};
 ghost use Rattle.pptt.specs.Processor.{processor_fields, processor_shown, processor_node, processor_of, flagged, fixed_part, with_resource, grown, processor_in, resource_in, resource_fields};
 ghost use Rattle.pptt.specs.Cache.{cache_node, cache_shown, cache_before, made, builder_of, holding, noted, allocation_bits, type_bits, policy_bits};
 
@@ -31,7 +32,7 @@ impl ProcessorHandle {
 }
 
 // The place of a cache's record, or its ordinal.
-#[derive(Clone, Copy)]
+#[derive(Clone, Copy, Default)]
 pub struct CacheHandle(pub u32);
 
 impl CacheHandle {
@@ -145,12 +146,7 @@ impl ProcessorNode {
     pub fn named(self, parent: ProcessorHandle) -> Self
         ensures { result ≡ processor_of self.flags parent self.acpi_processor_id self.resources }
     {
-        Self {
-            flags: self.flags,
-            parent,
-            acpi_processor_id: self.acpi_processor_id,
-            resources: self.resources,
-        }
+        Self { parent, ..self }
     }
 
     // The length of the record, its resources included.
@@ -164,10 +160,7 @@ impl ProcessorNode {
     pub fn resources_in(len: usize) -> usize
         ensures { result ≡ (len - 20) / 4 }
     {
-        if len < Self::LEN {
-            return 0;
-        }
-        (len - Self::LEN) / Resource::LEN
+        len.saturating_sub(Self::LEN) / Resource::LEN
     }
 
     // The Length column of the row.
@@ -189,16 +182,16 @@ impl ProcessorNode {
         requires { n ≤ 4611686018427387898 }
         ensures { result ≡ fixed_ok (layout (processor n)) head.now }
     {
-        if field::get_u8(head, 0) != Self::TYPE {
+        if field::get::<u8>(head, 0) != Self::TYPE {
             return false;
         }
-        if field::get_u8(head, 1) as usize != Self::LEN + Resource::LEN * n {
+        if field::get::<u8>(head, 1) as usize != Self::LEN + Resource::LEN * n {
             return false;
         }
-        if field::get_u16(head, 2) != 0 {
+        if field::get::<u16>(head, 2) != 0 {
             return false;
         }
-        field::get_u32(head, Self::COUNT_OFFSET) as usize == n
+        field::get::<u32>(head, Self::COUNT_OFFSET) as usize == n
     }
 
     // The same of a record; no field has a range. A window of constant length saves the test of each place.
@@ -216,7 +209,7 @@ impl ProcessorNode {
     pub fn parent_in(bytes: &[u8]) -> ProcessorHandle
         ensures { result.0 ≡ at (fields (body Processor) bytes.now) 1 }
     {
-        ProcessorHandle(field::get_u32(bytes, Self::PARENT_AT))
+        ProcessorHandle(field::get(bytes, Self::PARENT_AT))
     }
 
     // The node of a body.
@@ -224,9 +217,9 @@ impl ProcessorNode {
         ensures { processor_node result [] ≡ node (processor 0) (fields (body Processor) bytes.now) }
     {
         Self {
-            flags: field::get_u32(bytes, Self::FLAGS_AT),
+            flags: field::get(bytes, Self::FLAGS_AT),
             parent: Self::parent_in(bytes),
-            acpi_processor_id: field::get_u32(bytes, Self::ID_AT),
+            acpi_processor_id: field::get(bytes, Self::ID_AT),
             resources: 0,
         }
     }
@@ -256,7 +249,7 @@ impl ProcessorNode {
             self.acpi_processor_id as u64,
             self.resources as u64,
         ];
-        field::copy_u64(answer, at, &vs);
+        field::copy(answer, at, &vs);
     }
 
     // Writes the fixed part of the record.
@@ -282,7 +275,7 @@ impl ProcessorNode {
         if out.len() <= at {
             return;
         }
-        field::put_u32(out, at + (Self::LEN + Resource::LEN * i as usize), c.0);
+        field::put(out, at + (Self::LEN + Resource::LEN * i as usize), c.0);
     }
 
     // Whether a record of n resources takes no more.
@@ -312,10 +305,10 @@ impl ProcessorNode {
     {
         let r = field::rest(table, at);
         Self {
-            flags: field::get_u32(r, 4),
+            flags: field::get(r, 4),
             parent: Self::parent_of(r),
-            acpi_processor_id: field::get_u32(r, 12),
-            resources: field::get_u32(r, Self::COUNT_OFFSET),
+            acpi_processor_id: field::get(r, 12),
+            resources: field::get(r, Self::COUNT_OFFSET),
         }
     }
 
@@ -323,7 +316,7 @@ impl ProcessorNode {
     pub fn parent_of(row: &[u8]) -> ProcessorHandle
         ensures { result.0 ≡ at (fields (layout (processor 0)) row.now) 1 }
     {
-        ProcessorHandle(field::get_u32(row, Self::PARENT_OFFSET))
+        ProcessorHandle(field::get(row, Self::PARENT_OFFSET))
     }
 
     // The i-th resource of the record at a place.
@@ -331,7 +324,7 @@ impl ProcessorNode {
         ensures { result ≡ resource_in (drop at table.now) i }
     {
         let r = field::rest(table, at);
-        CacheHandle(field::get_u32(r, Self::LEN + Resource::LEN * i as usize))
+        CacheHandle(field::get(r, Self::LEN + Resource::LEN * i as usize))
     }
 }
 
@@ -361,7 +354,7 @@ impl Resource {
         ensures { resource_fields result ≡ fields (body format.Resource) bytes.now }
     {
         Self {
-            cache: CacheHandle(field::get_u32(bytes, Self::CACHE_AT)),
+            cache: CacheHandle(field::get(bytes, Self::CACHE_AT)),
         }
     }
 
@@ -378,70 +371,28 @@ impl Resource {
 
 #[derive(Clone, Copy)]
 pub enum AllocationType {
-    Read,
-    Write,
-    Both,
-}
-
-impl AllocationType {
-    fn bits(self) -> u8
-        ensures { result ≡ allocation_bits self }
-    {
-        match self {
-            AllocationType::Read => 0,
-            AllocationType::Write => 1 << 0,
-            AllocationType::Both => 1 << 1,
-        }
-    }
+    Read = 0,
+    Write = 1 << 0,
+    Both = 1 << 1,
 }
 
 #[derive(Clone, Copy)]
 pub enum CacheType {
-    Data,
-    Instruction,
-    Unified,
-}
-
-impl CacheType {
-    fn bits(self) -> u8
-        ensures { result ≡ type_bits self }
-    {
-        match self {
-            CacheType::Data => 0 << 2,
-            CacheType::Instruction => 1 << 2,
-            CacheType::Unified => 1 << 3,
-        }
-    }
+    Data = 0 << 2,
+    Instruction = 1 << 2,
+    Unified = 1 << 3,
 }
 
 #[derive(Clone, Copy)]
 pub enum WritePolicy {
-    Writeback,
-    Writethrough,
-}
-
-impl WritePolicy {
-    fn bits(self) -> u8
-        ensures { result ≡ policy_bits self }
-    {
-        match self {
-            WritePolicy::Writeback => 0 << 4,
-            WritePolicy::Writethrough => 1 << 4,
-        }
-    }
+    Writeback = 0 << 4,
+    Writethrough = 1 << 4,
 }
 
 // Sets each field of a cache with the flag that says so.
-#[derive(Clone, Copy)]
+#[derive(Clone, Copy, Default)]
 pub struct CacheNodeBuilder {
-    next_level: CacheHandle,
-    size: u32,
-    set_count: u32,
-    associativity: u8,
-    attributes: u8,
-    line_size: u16,
-    id: u32,
-    flags: u32,
+    node: CacheNode,
 }
 
 impl CacheNodeBuilder {
@@ -461,110 +412,85 @@ impl CacheNodeBuilder {
 
     pub const ID: u32 = 1 << 7;
 
-    pub fn default() -> Self
-        ensures { result ≡ builder_of (replicate 8 0) }
-    {
-        Self {
-            next_level: CacheHandle::NONE,
-            size: 0,
-            set_count: 0,
-            associativity: 0,
-            attributes: 0,
-            line_size: 0,
-            id: 0,
-            flags: 0,
-        }
-    }
-
     pub fn next_level(mut self, c: CacheHandle) -> Self
         ensures { result ≡ holding 1 c.0 self }
     {
-        self.next_level = c;
+        self.node.next_level = c;
         self
     }
 
     pub fn size(mut self, size: u32) -> Self
         ensures { result ≡ noted 0 2 size self }
     {
-        self.size = size;
-        self.flags |= Self::SIZE;
+        self.node.size = size;
+        self.node.flags |= Self::SIZE;
         self
     }
 
     pub fn sets(mut self, set_count: u32) -> Self
         ensures { result ≡ noted 1 3 set_count self }
     {
-        self.set_count = set_count;
-        self.flags |= Self::SETS;
+        self.node.set_count = set_count;
+        self.node.flags |= Self::SETS;
         self
     }
 
     pub fn associativity(mut self, associativity: u8) -> Self
         ensures { result ≡ noted 2 4 associativity self }
     {
-        self.associativity = associativity;
-        self.flags |= Self::ASSOCIATIVITY;
+        self.node.associativity = associativity;
+        self.node.flags |= Self::ASSOCIATIVITY;
         self
     }
 
     pub fn allocation_type(mut self, a: AllocationType) -> Self
-        ensures { result ≡ noted 3 5 (bit_or self.attributes (allocation_bits a)) self }
+        ensures { result ≡ noted 3 5 (bit_or self.node.attributes (allocation_bits a)) self }
     {
-        self.attributes |= a.bits();
-        self.flags |= Self::ALLOCATION;
+        self.node.attributes |= a as u8;
+        self.node.flags |= Self::ALLOCATION;
         self
     }
 
     pub fn cache_type(mut self, c: CacheType) -> Self
-        ensures { result ≡ noted 4 5 (bit_or self.attributes (type_bits c)) self }
+        ensures { result ≡ noted 4 5 (bit_or self.node.attributes (type_bits c)) self }
     {
-        self.attributes |= c.bits();
-        self.flags |= Self::TYPE;
+        self.node.attributes |= c as u8;
+        self.node.flags |= Self::TYPE;
         self
     }
 
     pub fn write_policy(mut self, w: WritePolicy) -> Self
-        ensures { result ≡ noted 5 5 (bit_or self.attributes (policy_bits w)) self }
+        ensures { result ≡ noted 5 5 (bit_or self.node.attributes (policy_bits w)) self }
     {
-        self.attributes |= w.bits();
-        self.flags |= Self::POLICY;
+        self.node.attributes |= w as u8;
+        self.node.flags |= Self::POLICY;
         self
     }
 
     pub fn line_size(mut self, line_size: u16) -> Self
         ensures { result ≡ noted 6 6 line_size self }
     {
-        self.line_size = line_size;
-        self.flags |= Self::LINE_SIZE;
+        self.node.line_size = line_size;
+        self.node.flags |= Self::LINE_SIZE;
         self
     }
 
     pub fn id(mut self, id: u32) -> Self
         ensures { result ≡ noted 7 7 id self }
     {
-        self.id = id;
-        self.flags |= Self::ID;
+        self.node.id = id;
+        self.node.flags |= Self::ID;
         self
     }
 
     pub fn to_node(self) -> CacheNode
         ensures { cache_shown result ≡ made self }
     {
-        let next_level = self.next_level;
-        CacheNode {
-            flags: self.flags,
-            next_level,
-            size: self.size,
-            set_count: self.set_count,
-            associativity: self.associativity,
-            attributes: self.attributes,
-            line_size: self.line_size,
-            id: self.id,
-        }
+        self.node
     }
 }
 
-#[derive(Clone, Copy)]
+#[derive(Clone, Copy, Default)]
 pub struct CacheNode {
     pub flags: u32,
     pub next_level: CacheHandle,
@@ -624,16 +550,7 @@ impl CacheNode {
     pub fn named(self, next_level: CacheHandle) -> Self
         ensures { result ≡ cache_before self next_level }
     {
-        Self {
-            flags: self.flags,
-            next_level,
-            size: self.size,
-            set_count: self.set_count,
-            associativity: self.associativity,
-            attributes: self.attributes,
-            line_size: self.line_size,
-            id: self.id,
-        }
+        Self { next_level, ..self }
     }
 
     pub fn len() -> usize
@@ -668,41 +585,41 @@ impl CacheNode {
     {
         let r = field::rest(table, at);
         Self {
-            flags: field::get_u32(r, 4),
+            flags: field::get(r, 4),
             next_level: Self::next_level_of(r),
-            size: field::get_u32(r, 12),
-            set_count: field::get_u32(r, 16),
-            associativity: field::get_u8(r, 20),
-            attributes: field::get_u8(r, 21),
-            line_size: field::get_u16(r, 22),
-            id: field::get_u32(r, 24),
+            size: field::get(r, 12),
+            set_count: field::get(r, 16),
+            associativity: field::get(r, 20),
+            attributes: field::get(r, 21),
+            line_size: field::get(r, 22),
+            id: field::get(r, 24),
         }
     }
     // Zeros and fixed values of a record.
     fn is_fixed(row: &[u8]) -> bool
         ensures { result ≡ fixed_ok (layout cache) row.now }
     {
-        if field::get_u8(row, 0) != Self::TYPE {
+        if field::get::<u8>(row, 0) != Self::TYPE {
             return false;
         }
-        if field::get_u8(row, 1) as usize != Self::LEN {
+        if field::get::<u8>(row, 1) as usize != Self::LEN {
             return false;
         }
-        field::get_u16(row, 2) == 0
+        field::get::<u16>(row, 2) == 0
     }
 
     // The next level in a record.
     pub fn next_level_of(row: &[u8]) -> CacheHandle
         ensures { result.0 ≡ at (fields (layout cache) row.now) 1 }
     {
-        CacheHandle(field::get_u32(row, Self::NEXT_LEVEL_OFFSET))
+        CacheHandle(field::get(row, Self::NEXT_LEVEL_OFFSET))
     }
 
     // The next level in a body.
     pub fn next_level_in(bytes: &[u8]) -> CacheHandle
         ensures { result.0 ≡ at (fields (body Cache) bytes.now) 1 }
     {
-        CacheHandle(field::get_u32(bytes, Self::NEXT_LEVEL_AT))
+        CacheHandle(field::get(bytes, Self::NEXT_LEVEL_AT))
     }
 
     // The node of a body.
@@ -710,14 +627,14 @@ impl CacheNode {
         ensures { cache_node result ≡ node cache (fields (body Cache) bytes.now) }
     {
         Self {
-            flags: field::get_u8(bytes, Self::FLAGS_AT) as u32,
+            flags: field::get::<u8>(bytes, Self::FLAGS_AT) as u32,
             next_level: Self::next_level_in(bytes),
-            size: field::get_u32(bytes, Self::SIZE_AT),
-            set_count: field::get_u32(bytes, Self::SETS_AT),
-            associativity: field::get_u8(bytes, Self::ASSOCIATIVITY_AT),
-            attributes: field::get_u8(bytes, Self::ATTRIBUTES_AT),
-            line_size: field::get_u16(bytes, Self::LINE_SIZE_AT),
-            id: field::get_u32(bytes, Self::ID_AT),
+            size: field::get(bytes, Self::SIZE_AT),
+            set_count: field::get(bytes, Self::SETS_AT),
+            associativity: field::get(bytes, Self::ASSOCIATIVITY_AT),
+            attributes: field::get(bytes, Self::ATTRIBUTES_AT),
+            line_size: field::get(bytes, Self::LINE_SIZE_AT),
+            id: field::get(bytes, Self::ID_AT),
         }
     }
 
@@ -755,7 +672,7 @@ impl CacheNode {
             self.line_size as u64,
             self.id as u64,
         ];
-        field::copy_u64(answer, at, &vs);
+        field::copy(answer, at, &vs);
     }
 
     // The parts of the attributes.
@@ -781,10 +698,7 @@ impl CacheNode {
     fn is_kept(flag: u32, v: u32) -> bool
         ensures { result ≡ pick (eqb flag 1) true (eqb v 0) }
     {
-        if flag == 1 {
-            return true;
-        }
-        v == 0
+        flag == 1 || v == 0
     }
 
     // Allocation and type up to 2, policy, the rest 0; each with its flag.
@@ -813,49 +727,46 @@ impl CacheNode {
         Self::is_kept(flags / CacheNodeBuilder::POLICY % 2, policy)
     }
 
-    // The place of the first field outside its range, counted from the kind byte; 0 for none.
-    pub fn bad_field(self) -> usize
-        ensures { result ≡ bad_field (cache_node self) }
+    // The place of the first field outside its range, counted from the kind byte.
+    pub fn bad_field(self) -> Option<usize>
+        ensures { result ≡ place_or_none (bad_field (cache_node self)) }
     {
         let flags = self.flags;
         if 256 <= flags {
-            return 1 + Self::FLAGS_AT;
+            return Some(1 + Self::FLAGS_AT);
         }
         if !Self::is_kept(flags / CacheNodeBuilder::SIZE % 2, self.size) {
-            return 1 + Self::SIZE_AT;
+            return Some(1 + Self::SIZE_AT);
         }
         if !Self::is_kept(flags / CacheNodeBuilder::SETS % 2, self.set_count) {
-            return 1 + Self::SETS_AT;
+            return Some(1 + Self::SETS_AT);
         }
         if !Self::is_kept(
             flags / CacheNodeBuilder::ASSOCIATIVITY % 2,
             self.associativity as u32,
         ) {
-            return 1 + Self::ASSOCIATIVITY_AT;
+            return Some(1 + Self::ASSOCIATIVITY_AT);
         }
         if !self.is_good_attributes() {
-            return 1 + Self::ATTRIBUTES_AT;
+            return Some(1 + Self::ATTRIBUTES_AT);
         }
         if !Self::is_kept(
             flags / CacheNodeBuilder::LINE_SIZE % 2,
             self.line_size as u32,
         ) {
-            return 1 + Self::LINE_SIZE_AT;
+            return Some(1 + Self::LINE_SIZE_AT);
         }
         if !Self::is_kept(flags / CacheNodeBuilder::ID % 2, self.id) {
-            return 1 + Self::ID_AT;
+            return Some(1 + Self::ID_AT);
         }
-        0
+        None
     }
 
     // Whether a record is fixed where it has to be, and no field outside its range.
     fn is_good(row: &[u8]) -> bool
         ensures { result ≡ sound cache row.now }
     {
-        if !Self::is_fixed(row) {
-            return false;
-        }
-        Self::get(row, 0).bad_field() == 0
+        Self::is_fixed(row) && Self::get(row, 0).bad_field().is_none()
     }
 
     // The same; a window of constant length, where the record has that length, saves the test of each place.

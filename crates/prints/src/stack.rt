@@ -2,60 +2,21 @@
 // which no proof covers yet.
 use crate::LARGE_STACK;
 
-// Whether a text begins with a word.
-fn begins(text: &[u8], word: &[u8]) -> bool {
-    if text.len() < word.len() {
-        return false;
-    }
-    let mut i = 0;
-    while i < word.len() {
-        if field::get_u8(text, i) != word[i] {
-            return false;
-        }
-        i += 1;
-    }
-    true
+// The soft limit stands behind 26 columns.
+const SOFT: &[u8] = b"Max stack size            ";
+
+// The number that a text begins with, or the largest where it is larger still; 0 where it begins with none.
+fn number(text: &[u8]) -> u64 {
+    text.iter()
+        .map_while(|b| (*b as char).to_digit(10))
+        .fold(0u64, |n, d| n.saturating_mul(10).saturating_add(d as u64))
 }
 
-// What stands behind the first place of a word in a text: nothing where the text lacks it.
-fn behind<'a>(text: &'a [u8], word: &[u8]) -> &'a [u8] {
-    let mut at = 0;
-    while at < text.len() {
-        let here = field::rest(text, at);
-        if begins(here, word) {
-            return field::rest(here, word.len());
-        }
-        at += 1;
-    }
-    field::rest(text, at)
-}
-
-// Whether a text begins with a number that is no smaller than a large stack: its first digits may be enough to tell.
-fn large(text: &[u8]) -> bool {
-    let mut n = 0;
-    let mut i = 0;
-    while i < text.len() {
-        let b = text[i];
-        if b < b'0' {
-            return false;
-        }
-        if b'9' < b {
-            return false;
-        }
-        n = n * 10 + (b - b'0') as u64;
-        if LARGE_STACK <= n {
-            return true;
-        }
-        i += 1;
-    }
-    false
-}
-
-// Whether the limits have a stack that is large: the soft limit stands behind 26 columns.
+// Whether the limits have a stack that is large.
 pub fn allows(limits: &[u8]) -> bool {
-    let soft = behind(limits, b"Max stack size            ");
-    if begins(soft, b"unlimited") {
-        return true;
-    }
-    large(soft)
+    let Some(at) = limits.windows(SOFT.len()).position(|w| w == SOFT) else {
+        return false;
+    };
+    let soft = &limits[at + SOFT.len()..];
+    soft.starts_with(b"unlimited") || LARGE_STACK <= number(soft)
 }

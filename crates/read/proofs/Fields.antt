@@ -62,7 +62,7 @@ module _ (t : Table) (rev mask ty : ℕ) (bs : List ℕ) where
 
 -- the row of a matrix by the counts that are read is the row of its record
 pub matrix-row : {w : Width} (bs : List ℕ) (m : SystemLocality) → matrix_head m ≡ trimmed 4 (node_at as_is (form_in (matrices w) bs) bs)
-    → narrowest (value (part bs 12 4)) (value (part bs 16 4)) ≡ w → some (matrices (narrowest m.initiators m.targets)) ≡ some (matrices w)
+    → narrowest (value (part bs 12 4)) (value (part bs 16 4)) ≡ w → matrices (narrowest m.initiators m.targets) ≡ matrices w
 unfolding form_in node_at
 matrix-row bs m e k =
     let f : matrix m.initiators m.targets ≡ matrix (value (part bs 12 4)) (value (part bs 16 4)) = ap (λ (n : Node). n.form) e in

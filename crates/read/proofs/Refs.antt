@@ -19,7 +19,9 @@ use Rattle.laws.proofs.Shapes.{Plain, plain-fld, plain-matrix}
 use Rattle.laws.proofs.Fits.{plain-good}
 use Rattle.laws.proofs.Masks.{row-home, known-row}
 use Rattle.laws.proofs.Tests.{both_right}
-use Rattle.rows.specs.Rows.{sound_as}
+use Rattle.rows.specs.declared.Row as code
+use Rattle.rows.specs.declared.Row.TheVariants.{Processors, Caches, Memories, Initiators, OldRintcs, Domains, Matrices, Sides, Bridges, Windows, Xors, Rintcs}
+use Rattle.rows.specs.Rows.{meant_row, sound_as}
 use Rattle.read.specs.Places.{RowOf, linked, refs_in}
 
 -- ---- rows without references
@@ -72,6 +74,21 @@ bare-row bridges z = tt
 bare-row windows z = tt
 bare-row xors z = tt
 bare-row rintcs z = tt
+
+-- a row of the code that is neither
+pub other-row : (r : code.Row) → (r ≡ Processors → ⊥) → (r ≡ Caches → ⊥) → Bare (meant_row r)
+other-row Processors p q = absurd (p refl)
+other-row Caches p q = absurd (q refl)
+other-row Memories p q = tt
+other-row Initiators p q = tt
+other-row OldRintcs p q = tt
+other-row Domains p q = tt
+other-row (Matrices w) p q = tt
+other-row Sides p q = tt
+other-row Bridges p q = tt
+other-row Windows p q = tt
+other-row Xors p q = tt
+other-row Rintcs p q = tt
 
 -- a row that is known of a record is of its table
 pub known_of : (t : Table) (rev ty mask : ℕ) (bs : List ℕ) (m o : Option Row) → m ≡ row_of t rev ty bs → o ≡ known mask m → RowOf t o

@@ -10,257 +10,213 @@ ghost use Rattle.format.specs.Read.{seen_as, walk, fields_of, reading_of};
 ghost use Rattle.format.specs.Read as format;
 ghost use Rattle.header.specs.Header.{meant};
 ghost use Rattle.pptt.specs.Processor.{processor_shown};
-ghost use Rattle.rows.specs.Rows.{row_meant};
+ghost use Rattle.rows.specs.Rows.{meant_row, row_meant};
 ghost use Rattle.marks.specs.Marks.{Every};
 ghost use Rattle.frames.specs.Frames.{frames_of, Passed, refers};
 ghost use Rattle.read.specs.Places.{RowOf, longest_processor, Fits, linked, refs_in, judged_at, counted, body_at, seen_at, part_at, first_place, behind};
-ghost use Rattle.read.specs.Answers.{row_in, fields_in, shown_as, step_as, accepted_as, shown};
+ghost use Rattle.read.specs.Answers.{node_row, node_fields, row_in, fields_in, shown_as, accepted_as, shown};
 
 use cedt::{CxlFixedMemory, CxlHostBridge, XorInterleaveMath};
-use frames::{Judged, Refusal, Spelled};
+use frames::Refusal;
 use header::{Table, TableHeader};
 use hmat::{MemoryProximityDomain, MemorySideCache, SystemLocality};
-use marks::Mark;
-use pptt::{CacheHandle, CacheNode, ProcessorHandle, ProcessorNode, Resource};
+use marks::{FEW, LONG, MANY, MOST, Mark, Marks};
+use pptt::{CacheNode, ProcessorNode, Resource};
 use rows::Row;
 use srat::{GenericInitiator, MemoryAffinity, OldRintcAffinity, RintcAffinity};
 
-// ---- the judgement: c is a table's own bytes
+// ---- the judgement
 
-// Whether v is the start of a record of type ty before the one at own: being below own is not enough.
-// Only a PPTT has references: it is the table here and in what names a record.
-fn refers(c: &[u8], marks: &[u64], shift: u32, own: usize, v: usize, ty: u16) -> bool
-    requires { Every (Passed pptt c.now) marks.now }
-    ensures { result ≡ refers pptt c.now own v ty }
-{
-    if own <= v {
-        return false;
-    }
-    frames::starts(
-        Table::Pptt,
-        c,
-        Mark::first().toward_place(marks, shift, v),
-        v,
-        ty,
-    )
-}
-
-// Whether a handle is none, or names a processor before the record at own.
-fn names_processor_or_none(
-    c: &[u8],
-    marks: &[u64],
-    shift: u32,
+// The records before the one at own, in a PPTT's own bytes c: the walk has come to each that is marked. Only a PPTT has references: it is the table here.
+#[derive(Clone, Copy)]
+struct Before<'a, const N: usize> {
+    c: &'a [u8],
+    marks: &'a Marks<N>,
     own: usize,
-    h: ProcessorHandle,
-) -> bool
-    requires { Every (Passed pptt c.now) marks.now }
-    ensures { result ≡ is_good (refers pptt c.now own) (or_none 0) h.0 }
-{
-    if h.0 == 0 {
-        return true;
+    ghost few: { N ≤ 65536 },
+    ghost passed: { Every (Passed pptt c.now) marks.now.slots },
+}
+
+impl<'a, const N: usize> Before<'a, N> {
+    // Whether v is the start of one of type ty: being below own is not enough.
+    fn refers(&self, v: u32, ty: u8) -> bool
+        ensures { result ≡ refers pptt self.now.c.now self.now.own v ty }
+    {
+        let v = v as usize;
+        v < self.own
+            && frames::starts(
+                Table::Pptt,
+                self.c,
+                self.marks.toward_place(Mark::first(), v),
+                v,
+                ty as u16,
+            )
     }
-    refers(
-        c,
-        marks,
-        shift,
-        own,
-        h.0 as usize,
-        ProcessorNode::TYPE as u16,
-    )
-}
 
-// Whether a handle names a cache before the record at own.
-fn names_cache(c: &[u8], marks: &[u64], shift: u32, own: usize, h: CacheHandle) -> bool
-    requires { Every (Passed pptt c.now) marks.now }
-    ensures { result ≡ refers pptt c.now own h.0 1 }
-{
-    refers(c, marks, shift, own, h.0 as usize, CacheNode::TYPE as u16)
-}
-
-// Whether it is none, or names one.
-fn names_cache_or_none(c: &[u8], marks: &[u64], shift: u32, own: usize, h: CacheHandle) -> bool
-    requires { Every (Passed pptt c.now) marks.now }
-    ensures { result ≡ is_good (refers pptt c.now own) (or_none 1) h.0 }
-{
-    if h.0 == 0 {
-        return true;
+    // Whether v is none, or such a start.
+    fn refers_or_none(&self, v: u32, ty: u8) -> bool
+        ensures { result ≡ is_good (refers pptt self.now.c.now self.now.own) (or_none ty) v }
+    {
+        v == 0 || self.refers(v, ty)
     }
-    names_cache(c, marks, shift, own, h)
-}
 
-// Whether each of the resources names a cache before the record at own.
-fn links(c: &[u8], marks: &[u64], shift: u32, own: usize, resources: &[u8]) -> bool
-    requires { Every (Passed pptt c.now) marks.now }
-    ensures { result ≡ linked (refers pptt c.now own) (length resources.now / 4) resources.now }
-{
-    let n = resources.len() / Resource::LEN;
-    let mut i = 0;
-    while i < n {
-        let cache = CacheHandle(field::get_u32(resources, Resource::LEN * i));
-        if !names_cache(c, marks, shift, own, cache) {
-            return false;
-        }
-        i += 1;
-    }
-    true
-}
-
-// Whether the references of a record are good: a processor's parent and resources, a cache's next level.
-fn refs_good(c: &[u8], marks: &[u64], shift: u32, own: usize, row: Row, body: &[u8]) -> bool
-    requires { Every (Passed pptt c.now) marks.now }
-    ensures { result ≡ refs_in (refers pptt c.now own) (row_meant row) body.now }
-{
-    match row {
-        Row::Processors => {
-            if !names_processor_or_none(c, marks, shift, own, ProcessorNode::parent_of(body)) {
+    // Whether each of the resources is a cache.
+    fn links(&self, resources: &[u8]) -> bool
+        ensures { result ≡ linked (refers pptt self.now.c.now self.now.own) (length resources.now / 4) resources.now }
+    {
+        for i in 0..resources.len() / Resource::LEN {
+            if !self.refers(
+                field::get::<u32>(resources, Resource::LEN * i),
+                CacheNode::TYPE,
+            ) {
                 return false;
             }
-            links(c, marks, shift, own, field::rest(body, ProcessorNode::LEN))
         }
-        Row::Caches => names_cache_or_none(c, marks, shift, own, CacheNode::next_level_of(body)),
-        Row::Memories => true,
-        Row::Initiators => true,
-        Row::OldRintcs => true,
-        Row::Domains => true,
-        Row::Matrices(_) => true,
-        Row::Sides => true,
-        Row::Bridges => true,
-        Row::Windows => true,
-        Row::Xors => true,
-        Row::Rintcs => true,
-        Row::Unknown => true,
+        true
     }
-}
 
-// The same in any table, by a row of it: no row of the others has references.
-fn refs_stand(
-    t: Table,
-    c: &[u8],
-    marks: &[u64],
-    shift: u32,
-    own: usize,
-    row: Row,
-    body: &[u8],
-) -> bool
-    requires { Every (Passed (meant t) c.now) marks.now × RowOf (meant t) (row_meant row) }
-    ensures { result ≡ refs_in (refers (meant t) c.now own) (row_meant row) body.now }
-{
-    match t {
-        Table::Pptt => refs_good(c, marks, shift, own, row, body),
-        Table::Srat => true,
-        Table::Hmat => true,
-        Table::Cedt => true,
-    }
-}
-
-// A record is passed, or refused.
-#[derive(Clone, Copy)]
-enum Step {
-    Next(usize),
-    Refused(Refusal),
-}
-
-// The judgement of the record at a place.
-fn judge(t: Table, c: &[u8], marks: &[u64], shift: u32, revision: u8, mask: u32, p: usize) -> Step
-    requires { Every (Passed (meant t) c.now) marks.now }
-    ensures { step_as result ≡ judged_at (meant t) c.now revision mask p }
-{
-    let s = field::rest(c, p);
-    if !frames::framed(t, s) {
-        return Step::Refused(Refusal::BadFrame(p));
-    }
-    let body = frames::record_in(t, s);
-    let row = rows::known(rows::row_of(t, revision, body), mask);
-    if !rows::sound(row, body) {
-        return Step::Refused(Refusal::BadRecord(p));
-    }
-    if !refs_stand(t, c, marks, shift, p, row, body) {
-        return Step::Refused(Refusal::BadRef(p));
-    }
-    Step::Next(p + body.len())
-}
-
-// Whether a table is accepted: how many records it has, or what is refused first.
-#[derive(Clone, Copy)]
-pub enum Accepted {
-    Records(usize),
-    Refused(Refusal),
-}
-
-// All records, one after the other, each marked before it is judged.
-fn judge_all(t: Table, c: &[u8], marks: &mut [u64], shift: u32, revision: u8, mask: u32) -> Accepted
-    requires { (length c.now ≤ limit) × Every (Passed (meant t) c.now) marks.old }
-    ensures { accepted_as result ≡ counted (walk (meant t) revision mask [] (frames_of (meant t) c.now)) }
-{
-    let mut p = t.front();
-    let mut count = 0;
-    while p < c.len() {
-        let here = Mark {
-            nodes: count as u32,
-            place: p as u32,
+    // Whether the references of a record are good: a processor's parent and resources, a cache's next level.
+    fn refs_good(&self, row: Option<Row>, body: &[u8]) -> bool
+        ensures { result ≡ refs_in (refers pptt self.now.c.now self.now.own) (row_meant row) body.now }
+    {
+        let Some(row) = row else {
+            return true;
         };
-        here.note(marks, shift, p);
-        match judge(t, c, marks, shift, revision, mask, p) {
-            Step::Next(q) => {
-                p = q;
-                count += 1;
+        match row {
+            Row::Processors => {
+                self.refers_or_none(ProcessorNode::parent_of(body).0, ProcessorNode::TYPE)
+                    && self.links(field::rest(body, ProcessorNode::LEN))
             }
-            Step::Refused(r) => return Accepted::Refused(r),
+            Row::Caches => self.refers_or_none(CacheNode::next_level_of(body).0, CacheNode::TYPE),
+            _ => true,
         }
     }
-    Accepted::Records(count)
 }
 
-// The same, with room for the most marks. LLVM does not inline a function that calls itself, so that no other table pays for that room;
-// again is 0, since no slice has usize::MAX bytes, but LLVM does not know it.
-fn scan_long(t: Table, c: &[u8], revision: u8, mask: u32, again: usize) -> Accepted
-    requires { length c.now ≤ limit }
-    ensures { accepted_as result ≡ counted (walk (meant t) revision mask [] (frames_of (meant t) c.now)) }
-{
-    if 0 < again {
-        return scan_long(t, c, revision, mask, again - 1);
-    }
-    let mut most = [0u64; marks::MOST];
-    let shift = marks::spread(c.len(), marks::MOST);
-    judge_all(t, c, &mut most, shift, revision, mask)
+// What is judged: a table's own bytes c, its revision, and the mask of a reader.
+#[derive(Clone, Copy)]
+struct Pass<'a> {
+    t: Table,
+    c: &'a [u8],
+    revision: u8,
+    mask: u32,
+    ghost short: { length c.now ≤ limit },
 }
 
-// The same, with room for marks where there are references: in a PPTT, for more the longer it is. again is for scan_long.
-fn scan(t: Table, c: &[u8], revision: u8, mask: u32, again: usize) -> Accepted
-    requires { length c.now ≤ limit }
-    ensures { accepted_as result ≡ counted (walk (meant t) revision mask [] (frames_of (meant t) c.now)) }
-{
-    if let Table::Pptt = t {
-        if c.len() < ProcessorNode::LEN * marks::FEW {
-            let mut few = [0u64; marks::FEW];
-            let shift = marks::spread(c.len(), marks::FEW);
-            return judge_all(t, c, &mut few, shift, revision, mask);
+impl<'a> Pass<'a> {
+    // Whether the references of the record at own are good: no row of another table than a PPTT has any.
+    fn refs_stand<const N: usize>(
+        &self,
+        marks: &Marks<N>,
+        own: usize,
+        row: Option<Row>,
+        body: &[u8],
+    ) -> bool
+        requires few { N ≤ 65536 }
+        requires passed { Every (Passed (meant self.now.t) self.now.c.now) marks.now.slots }
+        requires of_table { RowOf (meant self.now.t) (row_meant row) }
+        ensures { result ≡ refs_in (refers (meant self.now.t) self.now.c.now own) (row_meant row) body.now }
+    {
+        match self.t {
+            Table::Pptt => {
+                let earlier = Before {
+                    c: self.c,
+                    marks,
+                    own,
+                };
+                earlier.refs_good(row, body)
+            }
+            _ => true,
         }
-        if c.len() <= marks::LONG {
-            let mut many = [0u64; marks::MANY];
-            let shift = marks::spread(c.len(), marks::MANY);
-            return judge_all(t, c, &mut many, shift, revision, mask);
-        }
-        return scan_long(t, c, revision, mask, again);
     }
-    let mut one = [0u64; 1];
-    judge_all(t, c, &mut one, 63, revision, mask)
+
+    // The judgement of the record at a place: where the next one starts, or what is refused.
+    fn judge<const N: usize>(&self, marks: &Marks<N>, p: usize) -> Result<usize, Refusal>
+        requires few { N ≤ 65536 }
+        requires passed { Every (Passed (meant self.now.t) self.now.c.now) marks.now.slots }
+        ensures { accepted_as result ≡ judged_at (meant self.now.t) self.now.c.now self.now.revision self.now.mask p }
+    {
+        let s = field::rest(self.c, p);
+        if !frames::framed(self.t, s) {
+            return Err(Refusal::BadFrame(p));
+        }
+        let body = frames::record_in(self.t, s);
+        let row = rows::known(rows::row_of(self.t, self.revision, body), self.mask);
+        if !rows::sound(row, body) {
+            return Err(Refusal::BadRecord(p));
+        }
+        if !self.refs_stand(marks, p, row, body) {
+            return Err(Refusal::BadRef(p));
+        }
+        Ok(p + body.len())
+    }
+
+    // All records, one after the other, each marked before it is judged.
+    fn judge_all<const N: usize>(&self, marks: &mut Marks<N>) -> Result<usize, Refusal>
+        requires few { N ≤ 65536 }
+        requires passed { Every (Passed (meant self.now.t) self.now.c.now) marks.old.slots }
+        ensures { accepted_as result ≡ counted (walk (meant self.now.t) self.now.revision self.now.mask [] (frames_of (meant self.now.t) self.now.c.now)) }
+    {
+        let mut p = self.t.front();
+        let mut count = 0;
+        while p < self.c.len() {
+            let here = Mark {
+                nodes: count as u32,
+                place: p as u32,
+            };
+            marks.note(here, p);
+            p = self.judge(marks, p)?;
+            count += 1;
+        }
+        Ok(count)
+    }
+
+    // The same, with room for N marks.
+    fn scan_with<const N: usize>(&self) -> Result<usize, Refusal>
+        requires few { N ≤ 65536 }
+        ensures { accepted_as result ≡ counted (walk (meant self.now.t) self.now.revision self.now.mask [] (frames_of (meant self.now.t) self.now.c.now)) }
+    {
+        let mut marks = Marks::<N>::none(self.c.len());
+        self.judge_all(&mut marks)
+    }
+
+    // The same, with room for the most marks. LLVM does not inline a function that calls itself, so that no other table pays for that room;
+    // again is 0, since no slice has usize::MAX bytes, but LLVM does not know it.
+    fn scan_long(&self, again: usize) -> Result<usize, Refusal>
+        ensures { accepted_as result ≡ counted (walk (meant self.now.t) self.now.revision self.now.mask [] (frames_of (meant self.now.t) self.now.c.now)) }
+    {
+        if 0 < again {
+            return self.scan_long(again - 1);
+        }
+        let mut marks = Marks::<MOST>::none(self.c.len());
+        self.judge_all(&mut marks)
+    }
+
+    // The same, with room for marks where there are references: in a PPTT, for more the longer it is. again is for scan_long.
+    fn scan(&self, again: usize) -> Result<usize, Refusal>
+        ensures { accepted_as result ≡ counted (walk (meant self.now.t) self.now.revision self.now.mask [] (frames_of (meant self.now.t) self.now.c.now)) }
+    {
+        match self.t {
+            Table::Pptt if self.c.len() < ProcessorNode::LEN * FEW => self.scan_with::<FEW>(),
+            Table::Pptt if self.c.len() <= LONG => self.scan_with::<MANY>(),
+            Table::Pptt => self.scan_long(again),
+            _ => self.scan_with::<1>(),
+        }
+    }
 }
 
-// Judges a table by the rows that the mask has.
-pub fn accept(table: &[u8], mask: u32) -> Accepted
+// Judges a table by the rows that the mask has: how many records it has, or what is refused first.
+pub fn accept(table: &[u8], mask: u32) -> Result<usize, Refusal>
     ensures { accepted_as result ≡ counted (format.accept table.now mask) }
 {
-    match frames::judge_head(table) {
-        Judged::Table(t) => scan(
-            t,
-            frames::own(table),
-            TableHeader::revision_in(table),
-            mask,
-            table.len() / usize::MAX,
-        ),
-        Judged::Refused(r) => Accepted::Refused(r),
-    }
+    let t = frames::judge_head(table)?;
+    let pass = Pass {
+        t,
+        c: frames::own(table),
+        revision: TableHeader::revision_in(table),
+        mask,
+    };
+    pass.scan(table.len() / usize::MAX)
 }
 
 // ---- one record after the other: of an accepted table these are its records, of other bytes what a table would have there
@@ -280,16 +236,15 @@ pub enum Node {
     Window(CxlFixedMemory),
     Xor(XorInterleaveMath),
     Rintc(RintcAffinity),
-    Unknown,
 }
 
-// A record: its type, place and length, and its row and fields as a node.
+// A record: its type, place and length, and its row and fields as a node, if its row is known.
 #[derive(Clone, Copy)]
 pub struct Shown {
     pub ty: u16,
     pub place: usize,
     pub length: usize,
-    pub node: Node,
+    pub node: Option<Node>,
 }
 
 // Where the first record starts.
@@ -297,8 +252,8 @@ pub fn first_place(table: &[u8]) -> usize
     ensures { result ≡ first_place table.now }
 {
     match frames::signed(table) {
-        Spelled::Table(t) => t.front(),
-        Spelled::Other => 0,
+        Some(t) => t.front(),
+        None => 0,
     }
 }
 
@@ -307,8 +262,8 @@ fn body_at(table: &[u8], place: usize) -> &[u8]
     ensures { result.now ≡ body_at table.now place }
 {
     match frames::signed(table) {
-        Spelled::Table(t) => frames::record_in(t, field::rest(frames::own(table), place)),
-        Spelled::Other => &table[..0],
+        Some(t) => frames::record_in(t, field::rest(frames::own(table), place)),
+        None => &table[..0],
     }
 }
 
@@ -317,10 +272,8 @@ fn place_of(table: &[u8], n: usize) -> usize
     ensures { result ≡ behind table.now n (first_place table.now) }
 {
     let mut p = first_place(table);
-    let mut left = n;
-    while 0 < left {
+    for _ in 0..n {
         p += body_at(table, p).len();
-        left -= 1;
     }
     p
 }
@@ -335,9 +288,10 @@ fn processor_in(body: &[u8]) -> ProcessorNode
     n
 }
 
+// What a record of a row says.
 fn node_in(row: Row, body: &[u8]) -> Node
-    requires { Fits (row_meant row) body.now }
-    ensures { (row_in result ≡ row_meant row) × (fields_in result ≡ fields_of (row_meant row) body.now) }
+    requires { Fits (some (meant_row row)) body.now }
+    ensures { (node_row result ≡ meant_row row) × (node_fields result ≡ fields_of (some (meant_row row)) body.now) }
 {
     match row {
         Row::Processors => Node::Processor(processor_in(body)),
@@ -352,8 +306,15 @@ fn node_in(row: Row, body: &[u8]) -> Node
         Row::Windows => Node::Window(CxlFixedMemory::get(body, 0)),
         Row::Xors => Node::Xor(XorInterleaveMath::get(body, 0)),
         Row::Rintcs => Node::Rintc(RintcAffinity::get(body, 0)),
-        Row::Unknown => Node::Unknown,
     }
+}
+
+// The same of a row that may be unknown.
+fn known_node(row: Option<Row>, body: &[u8]) -> Option<Node>
+    requires { Fits (row_meant row) body.now }
+    ensures { (row_in result ≡ row_meant row) × (fields_in result ≡ fields_of (row_meant row) body.now) }
+{
+    Some(node_in(row?, body))
 }
 
 fn show(t: Table, revision: u8, mask: u32, place: usize, body: &[u8]) -> Shown
@@ -364,7 +325,7 @@ fn show(t: Table, revision: u8, mask: u32, place: usize, body: &[u8]) -> Shown
         ty: frames::type_in(t, body),
         place,
         length: body.len(),
-        node: node_in(rows::known(row, mask), body),
+        node: known_node(rows::known(row, mask), body),
     }
 }
 
@@ -374,12 +335,12 @@ pub fn record_at(table: &[u8], mask: u32, place: usize) -> Shown
 {
     let body = body_at(table, place);
     match frames::signed(table) {
-        Spelled::Table(t) => show(t, TableHeader::revision_in(table), mask, place, body),
-        Spelled::Other => Shown {
+        Some(t) => show(t, TableHeader::revision_in(table), mask, place, body),
+        None => Shown {
             ty: 0,
             place,
             length: body.len(),
-            node: Node::Unknown,
+            node: None,
         },
     }
 }
@@ -390,36 +351,33 @@ pub fn part_at(table: &[u8], mask: u32, place: usize) -> &[u8]
 {
     let body = body_at(table, place);
     match frames::signed(table) {
-        Spelled::Table(t) => {
+        Some(t) => {
             let row = rows::row_of(t, TableHeader::revision_in(table), body);
             rows::part(rows::known(row, mask), body)
         }
-        Spelled::Other => body,
+        None => body,
     }
 }
 
 // ---- the reading call
 
+// How many records a table has, and the one that was asked for.
 #[derive(Clone, Copy)]
-pub enum Reply {
-    Record { count: usize, record: Shown },
-    Refused(Refusal),
+pub struct Reading {
+    pub count: usize,
+    pub record: Shown,
 }
 
 // Record number n of a table, by the rows that the mask has.
-pub fn read(table: &[u8], mask: u32, n: usize) -> Reply
+pub fn read(table: &[u8], mask: u32, n: usize) -> Result<Reading, Refusal>
     ensures { shown result ≡ format.read table.now mask n }
 {
-    match accept(table, mask) {
-        Accepted::Records(count) => {
-            if count <= n {
-                return Reply::Refused(Refusal::NoRecord(count));
-            }
-            let record = record_at(table, mask, place_of(table, n));
-            Reply::Record { count, record }
-        }
-        Accepted::Refused(r) => Reply::Refused(r),
+    let count = accept(table, mask)?;
+    if count <= n {
+        return Err(Refusal::NoRecord(count));
     }
+    let record = record_at(table, mask, place_of(table, n));
+    Ok(Reading { count, record })
 }
 
 // The part of the table that comes back with record number n.
@@ -427,12 +385,7 @@ pub fn part<'a>(table: &'a [u8], mask: u32, n: usize) -> &'a [u8]
     ensures { result.now ≡ format.read_part table.now mask n }
 {
     match accept(table, mask) {
-        Accepted::Records(count) => {
-            if count <= n {
-                return &table[..0];
-            }
-            part_at(table, mask, place_of(table, n))
-        }
-        Accepted::Refused(_) => &table[..0],
+        Ok(count) if n < count => part_at(table, mask, place_of(table, n)),
+        _ => &table[..0],
     }
 }

@@ -1,23 +1,24 @@
 -- Writing list after list: what is still to come is laid over what there is; calls by their low bytes, and lists of a layout turn by turn.
 use mathlib.Core.Path.{◌≡◌, refl, sym, ap, subst, ◌∙◌}
-use Prim.Native.Nat.{ℕ, zero, suc, ◌+◌, ◌*◌, ◌-◌, ◌%◌, ◌≤◌, ◌<◌}
-use mathlib.Core.List.{List, [], ◌∷◌, ◌++◌, append-nil}
+use Prim.Native.Nat.{ℕ, zero, suc, ◌+◌, ◌*◌, ◌-◌, ◌/◌, ◌%◌, ◌^◌, ◌≤◌, ◌<◌, min}
+use mathlib.Core.Bool.{Bool, true, false}
+use mathlib.Core.List.{List, [], ◌∷◌, ◌++◌, append-nil, append_assoc}
 use native.Mathlib.Omega.{arith}
 use native.Mathlib.Numerals.{add-one}
-use native.Mathlib.Nat.{add_comm, add-zero, mul-zero, mul-suc}
+use native.Mathlib.Nat.{add_comm, add-suc, zero-add, add-zero, mul-zero, mul-suc, mul-add-div, mul-add-mod_self_left, div-eq_of_lt, mod-eq_of_lt}
 use lib.ListN.{length, replicate, length-append}
 use lib.Dec.{eqb}
 use Rattle.format.specs.Bytes.{pick, value, part, le, over}
-use Rattle.format.specs.Layout.{Item, to, wide, taken_with, width, lay_with, lay}
+use Rattle.format.specs.Layout.{Item, as_is, fld, to, wide, taken_with, width, lay_with, lay}
 use Rattle.format.specs.Form.{Width, byte, pair, octets}
-use Rattle.format.specs.Kind.{Kind, Initiator, Cell, body}
+use Rattle.format.specs.Kind.{Kind, Resource, Initiator, Cell, Handle, WindowTarget, Map, body}
 use Rattle.format.specs.Normal.{call, each, each_set}
 use Rattle.laws.specs.Offsets.{fields_at}
 use Rattle.laws.proofs.Bytes.{le-mod, over-over, over_none, length_over}
 use Rattle.laws.proofs.Fields.{length-call}
 use Rattle.readout.specs.Bounds.{setting_most}
-use Rattle.readout.specs.Laid.{Laid}
-use Rattle.readout.specs.Places.{setting}
+use Rattle.readout.specs.Laid.{Laid, Calls, up_to}
+use Rattle.readout.specs.Places.{setting, nth, value_calls, cell_calls}
 
 -- ---- what is still to come
 
@@ -73,87 +74,176 @@ pub low-cell : (w : Width) (i j v : ℕ) → call (Cell w) (i % 65536 ∷ j % 65
 unfolding lay_with body
 low-cell w i j v = rw (low-index w i, low-index w j)
 
--- how long a setting is at most
-pub setting-short : (w : Width) (kind j v : ℕ) → length (setting w kind j v) ≤ setting_most
+-- how long the calls of one number are at most, and the settings
+pub handle_short : (vs : List ℕ) → length (call Handle vs) ≤ 9
 unfolding body width
-setting-short byte kind j v = omega (arith, length-call (Initiator byte) (j ∷ v ∷ []))
-setting-short pair kind j v = omega (arith, length-call (Initiator pair) (j ∷ v ∷ []))
+handle_short vs = omega (arith, length-call Handle vs)
 
-pub cell-short : (w : Width) (vs : List ℕ) → length (call (Cell w) vs) ≤ setting_most
+pub target_short : (vs : List ℕ) → length (call WindowTarget vs) ≤ 9
 unfolding body width
-cell-short byte vs = omega (arith, length-call (Cell byte) vs)
-cell-short pair vs = omega (arith, length-call (Cell pair) vs)
+target_short vs = omega (arith, length-call WindowTarget vs)
 
--- ---- lists of a layout
+pub map_short : (vs : List ℕ) → length (call Map vs) ≤ 9
+unfolding body width
+map_short vs = omega (arith, length-call Map vs)
 
-pub list-turn : (g : ℕ → ℕ) (it : Item) (bs : List ℕ) (n i p : ℕ) → i < n
-    → fields_at g (replicate (n - i) it) bs p ≡ taken_with g it (value (part bs p (wide it))) ++ fields_at g (replicate (n - (i + 1)) it) bs (p + wide it)
-list-turn g it bs n i p l =
-    let e : n - i ≡ suc (n - (i + 1)) = omega arith in
-    rw e
+pub resource_short : (vs : List ℕ) → length (call Resource vs) ≤ 9
+unfolding body width
+resource_short vs = omega (arith, length-call Resource vs)
 
-pub list-end : (g : ℕ → ℕ) (it : Item) (bs : List ℕ) (n i p : ℕ) → n ≤ i → fields_at g (replicate (n - i) it) bs p ≡ []
-list-end g it bs n i p l =
-    let e : n - i ≡ 0 = omega arith in
-    rw e
+pub value_short : (w : Width) (kind j v : ℕ) → length (value_calls w kind j v) ≤ setting_most
+unfolding body width
+value_short w kind j v = by w (eqb v 0)
+  where
+    by : (w : Width) (b : Bool) → length (pick b [] (setting w kind j v)) ≤ setting_most
+    by w true = omega arith
+    by byte false = omega (arith, length-call (Initiator byte) (j ∷ v ∷ []))
+    by pair false = omega (arith, length-call (Initiator pair) (j ∷ v ∷ []))
 
--- ---- a turn of a loop over such a list, and its end
+pub cell_short : (w : Width) (i j v : ℕ) → length (cell_calls w i j v) ≤ setting_most
+unfolding body width
+cell_short w i j v = by w (eqb v 65535)
+  where
+    by : (w : Width) (b : Bool) → length (pick b [] (call (Cell w) (i ∷ j ∷ v ∷ []))) ≤ setting_most
+    by w true = omega arith
+    by byte false = omega (arith, length-call (Cell byte) (i ∷ j ∷ v ∷ []))
+    by pair false = omega (arith, length-call (Cell pair) (i ∷ j ∷ v ∷ []))
 
-module _ {a b ys : List ℕ} {at p : ℕ} (g : ℕ → ℕ) (it : Item) (bs : List ℕ) (n i q : ℕ) where
-  -- a call for each
-  come-each : {b' : List ℕ} {p' v q' : ℕ} (k : Kind) → i < n → taken_with g it (value (part bs q (wide it))) ≡ v ∷ [] → q' ≡ q + wide it → Laid b b' p (call k (v ∷ [])) p'
-      → Coming a at ys b p (each k (fields_at g (replicate (n - i) it) bs q)) → Coming a at ys b' p' (each k (fields_at g (replicate (n - (i + 1)) it) bs q'))
-  unfolding each
-  come-each k l o s c m = rw s (come c (rw (list-turn g it bs n i q l, o) at m))
+pub short_value : (w : Width) (kind j v : ℕ) → length (value_calls w kind j v) ≤ 9
+unfolding body width
+short_value w kind j v = omega (arith, value_short w kind j v)
 
-  each_laid : (k : Kind) → n ≤ i → Coming a at ys b p (each k (fields_at g (replicate (n - i) it) bs q)) → Laid a b at ys p
-  unfolding each
-  each_laid k l m = all_laid (rw (list-end g it bs n i q l) at m)
+pub short_cell : (w : Width) (i j v : ℕ) → length (cell_calls w i j v) ≤ 9
+unfolding body width
+short_cell w i j v = omega (arith, cell_short w i j v)
 
-  -- a setting for each that is not unset
-  pub come-set : {b' : List ℕ} {p' v : ℕ} (s : ℕ → ℕ → List ℕ) (u : ℕ) → i < n → taken_with g it (value (part bs q (wide it))) ≡ v ∷ [] → Laid b b' p (pick (eqb v u) [] (s i v)) p'
-      → Coming a at ys b p (each_set s u i (fields_at g (replicate (n - i) it) bs q)) → Coming a at ys b' p' (each_set s u (i + 1) (fields_at g (replicate (n - (i + 1)) it) bs (q + wide it)))
-  unfolding each_set
-  come-set {b'} {p'} s u l o c m =
-      subst (λ (j : ℕ). Coming a at ys b' p' (each_set s u j (fields_at g (replicate (n - (i + 1)) it) bs (q + wide it)))) (sym (add-one i)) (come c (rw (list-turn g it bs n i q l, o) at m))
+-- nothing is laid
+pub none-laid : (a : List ℕ) (p : ℕ) → Laid a a p [] p
+none-laid a p = all_laid (all-coming a p [])
 
-  pub set-laid : (s : ℕ → ℕ → List ℕ) (u : ℕ) → n ≤ i → Coming a at ys b p (each_set s u i (fields_at g (replicate (n - i) it) bs q)) → Laid a b at ys p
-  unfolding each_set
-  set-laid s u l m = all_laid (rw (list-end g it bs n i q l) at m)
+-- ---- what a function gives for each number, one behind the other
 
--- ---- the loop that lays a call for each number of a list, each call z bytes long
+module _ (f : ℕ → List ℕ) where
+  -- what is laid up to i, and what i gives
+  pub next-laid : {a b b' : List ℕ} {at p r : ℕ} (i : ℕ) → Laid a b at (up_to f i) p → b' ≡ over b p (f i) → r ≡ length (f i) → Laid a b' at (up_to f (i + 1)) (p + r)
+  unfolding up_to
+  next-laid i l w e = rw (add-one i) (laid_on l (put-laid w e refl))
 
-module _ (g : ℕ → ℕ) (it : Item) (k : Kind) (z start : ℕ) (bs : List ℕ) (n : ℕ) (a : List ℕ) (at : ℕ) where
-  -- of the n numbers from start on i are laid, up to place p, and the calls of the others are still to come
-  abbrev pub Turning : List ℕ → ℕ → ℕ → Type 0
-  Turning b p i =
-      (i ≤ n) × (p ≡ at + z * i)
-      × Coming a at (each k (fields_at g (replicate n it) bs start)) b p (each k (fields_at g (replicate (n - i) it) bs (start + wide it * i)))
+  pub up_to-short : (z : ℕ) → ((i : ℕ) → length (f i) ≤ z) → (n : ℕ) → length (up_to f n) ≤ z * n
+  unfolding up_to
+  up_to-short z h zero = omega arith
+  up_to-short z h (suc n) = rw (length-append, mul-suc) (omega (arith, up_to-short z h n, h n))
 
-  pub turn-first : Turning a at 0
-  turn-first =
-      let e : n - 0 ≡ n = omega arith in
-      (omega arith, rw (mul-zero, add-zero), rw (e, mul-zero, add-zero) (all-coming a at (each k (fields_at g (replicate n it) bs start))))
+  pub up_to-append : (m n : ℕ) → up_to f (m + n) ≡ up_to f m ++ up_to (λ i. f (m + i)) n
+  unfolding up_to
+  up_to-append m zero = rw (add-zero m) (sym (append-nil _))
+  up_to-append m (suc n) = rw (add-suc, up_to-append m n, append_assoc)
 
-  module _ {b : List ℕ} {p i : ℕ} (m : Turning b p i) where
-    pub turn-next : {b' xs : List ℕ} {r v : ℕ} → i < n → suc (width (body k)) ≡ z → taken_with g it (value (part bs (start + wide it * i) (wide it))) ≡ v ∷ [] → b' ≡ over b p xs → r ≡ length xs → xs ≡ call k (v ∷ [])
-        → Turning b' (p + r) (i + 1)
-    turn-next {b'} {xs} {r} {v} l s o w e x =
-        let t : (y q : ℕ) → q + y * (i + 1) ≡ q + y * i + y = λ y q. rw (add-one, mul-suc) (omega arith) in
-        let h : r ≡ z = e ∙ ap length x ∙ length-call k (v ∷ []) ∙ s in
-        (omega arith, rw (t z at, h, ← m.1), come-each g it bs n i (start + wide it * i) k l o (t (wide it) start) (put-laid w e x) m.2)
+  up_to-first : (n : ℕ) → up_to f (suc n) ≡ f 0 ++ up_to (λ i. f (suc i)) n
+  unfolding up_to
+  up_to-first zero = sym (append-nil _)
+  up_to-first (suc n) = rw (up_to-first n, append_assoc)
 
-    pub turn_end : n ≤ i → Laid a b at (each k (fields_at g (replicate n it) bs start)) p × (p ≤ at + z * n)
-    turn_end l =
-        let e : i ≡ n = omega (arith, m.0) in
-        (each_laid g it bs n i (start + wide it * i) k l m.2, rw (← e) (omega (arith, m.1)))
+pub up_to-same : (f h : ℕ → List ℕ) (n : ℕ) → ((i : ℕ) → i < n → f i ≡ h i) → up_to f n ≡ up_to h n
+unfolding up_to
+up_to-same f h zero e = refl
+up_to-same f h (suc n) e = rw (up_to-same f h n (λ i l. e i (omega arith)), e n (omega arith))
+
+-- ---- the numbers of a layout's list
+
+-- g: how a reference is read
+module _ (g : ℕ → ℕ) (it : Item) (bs : List ℕ) where
+  -- the number at i of those from p on
+  abbrev pub entry : ℕ → ℕ → ℕ
+  entry p i = value (part bs (p + wide it * i) (wide it))
+
+  entry-next : (p i : ℕ) → entry p (suc i) ≡ entry (p + wide it) i
+  entry-next p i = let e : p + wide it * suc i ≡ p + wide it + wide it * i = rw mul-suc (omega arith) in rw e
+
+  -- a call for each, read by h
+  abbrev pub calls_each : (k : Kind) → ℕ → (ℕ → ℕ) → ((vs : List ℕ) → length (call k vs) ≤ 9) → Calls
+  calls_each k p h l = record { of = λ i. call k (h (entry p i) ∷ []); short = λ i. l (h (entry p i) ∷ []) }
+
+  each-fields : (k : Kind) (h : ℕ → ℕ) → ((v : ℕ) → taken_with g it v ≡ h v ∷ []) → (n p : ℕ) → up_to (λ i. call k (h (entry p i) ∷ [])) n ≡ each k (fields_at g (replicate n it) bs p)
+  unfolding up_to each
+  each-fields k h o zero p = refl
+  each-fields k h o (suc n) p =
+      let s : up_to (λ i. call k (h (entry p (suc i)) ∷ [])) n ≡ up_to (λ i. call k (h (entry (p + wide it) i) ∷ [])) n = up_to-same (λ i. call k (h (entry p (suc i)) ∷ [])) (λ i. call k (h (entry (p + wide it) i) ∷ [])) n (λ i l. rw (entry-next p i)) in
+      up_to-first (λ i. call k (h (entry p i) ∷ [])) n ∙ rw (s, each-fields k h o n (p + wide it), o, mul-zero, add-zero)
+
+  -- calls of one number each
+  pub each-laid : {a b : List ℕ} {at q : ℕ} (k : Kind) (h : ℕ → ℕ) → ((v : ℕ) → taken_with g it v ≡ h v ∷ []) → (n p : ℕ) → Laid a b at (up_to (λ i. call k (h (entry p i) ∷ [])) n) q
+      → Laid a b at (each k (fields_at g (replicate n it) bs p)) q × (q ≤ at + suc (width (body k)) * n)
+  each-laid {a} {b} {at} {q} k h o n p l =
+      let s = up_to-short (λ i. call k (h (entry p i) ∷ [])) (suc (width (body k))) (λ i. omega (arith, length-call k (h (entry p i) ∷ []))) n in
+      (rw (each-fields k h o n p) at l, omega (arith, l.next, s))
+
+  set-fields : (s : ℕ → ℕ → List ℕ) (u : ℕ) → ((v : ℕ) → taken_with g it v ≡ v ∷ []) → (n j p : ℕ)
+      → up_to (λ i. pick (eqb (entry p i) u) [] (s (j + i) (entry p i))) n ≡ each_set s u j (fields_at g (replicate n it) bs p)
+  unfolding up_to each_set
+  set-fields s u o zero j p = refl
+  set-fields s u o (suc n) j p =
+      let e = up_to-same (λ i. pick (eqb (entry p (suc i)) u) [] (s (j + suc i) (entry p (suc i)))) (λ i. pick (eqb (entry (p + wide it) i) u) [] (s (suc j + i) (entry (p + wide it) i))) n
+      (λ i l. let a : j + suc i ≡ suc j + i = omega arith in ap (λ (v : ℕ). pick (eqb v u) [] (s (j + suc i) v)) (entry-next p i) ∙ ap (λ (m : ℕ). pick (eqb (entry (p + wide it) i) u) [] (s m (entry (p + wide it) i))) a) in
+      up_to-first (λ i. pick (eqb (entry p i) u) [] (s (j + i) (entry p i))) n ∙ rw (e, set-fields s u o n (suc j) (p + wide it), o, mul-zero, add-zero p, add-zero j)
+
+  -- settings of those that are not unset
+  pub set-laid : {a b : List ℕ} {at q : ℕ} (s : ℕ → ℕ → List ℕ) (u : ℕ) → ((v : ℕ) → taken_with g it v ≡ v ∷ []) → (n p : ℕ) → Laid a b at (up_to (λ i. pick (eqb (entry p i) u) [] (s i (entry p i))) n) q
+      → Laid a b at (each_set s u 0 (fields_at g (replicate n it) bs p)) q
+  set-laid {a} {b} {at} {q} s u o n p l = let e : up_to (λ i. pick (eqb (entry p i) u) [] (s i (entry p i))) n ≡ each_set s u 0 (fields_at g (replicate n it) bs p) = up_to-same _ _ n (λ i l. rw zero-add) ∙ set-fields s u o n 0 p in subst (λ (xs : List ℕ). Laid a b at xs q) e l
+
+-- ---- a matrix's numbers, each at a place that is not past the last one
+
+abbrev pub value_list : Width → ℕ → List ℕ → ℕ → Calls
+value_list w kind bs p = record { of = λ j. value_calls w kind j (nth 4 bs p j); short = λ j. short_value w kind j (nth 4 bs p j) }
+
+abbrev pub cell_list : Width → ℕ → List ℕ → ℕ → Calls
+cell_list w i bs p = record { of = λ j. cell_calls w i j (nth 2 bs p j); short = λ j. short_cell w i j (nth 2 bs p j) }
+
+values-seen : (w : Width) (kind : ℕ) (bs : List ℕ) (p n : ℕ) → p + 4 * n < 2 ^ 64 → up_to (λ j. value_calls w kind j (nth 4 bs p j)) n ≡ up_to (λ j. value_calls w kind j (value (part bs (p + 4 * j) 4))) n
+values-seen w kind bs p n l = up_to-same _ _ n (λ j k. let e : min (p + 4 * j) (2 ^ 64 - 1) ≡ p + 4 * j = omega arith in rw e)
+
+cells-seen : (w : Width) (i : ℕ) (bs : List ℕ) (p n : ℕ) → p + 2 * n < 2 ^ 64 → up_to (λ j. cell_calls w i j (nth 2 bs p j)) n ≡ up_to (λ j. cell_calls w i j (value (part bs (p + 2 * j) 2))) n
+cells-seen w i bs p n l = up_to-same _ _ n (λ j k. let e : min (p + 2 * j) (2 ^ 64 - 1) ≡ p + 2 * j = omega arith in rw e)
+
+pub values-laid : (w : Width) (kind : ℕ) (bs : List ℕ) (p n : ℕ) {a b : List ℕ} {at q : ℕ} → p + 4 * n < 2 ^ 64 → Laid a b at (up_to (value_list w kind bs p).of n) q
+    → Laid a b at (each_set (setting w kind) 0 0 (fields_at as_is (replicate n (fld 4)) bs p)) q × (q ≤ at + setting_most * n)
+values-laid w kind bs p n {a} {b} {at} {q} l m =
+    let k = subst (λ (xs : List ℕ). Laid a b at xs q) (values-seen w kind bs p n l) m in
+    (set-laid as_is (fld 4) bs (setting w kind) 0 (λ v. refl) n p k, omega (arith, m.next, up_to-short (value_list w kind bs p).of setting_most (λ j. value_short w kind j (nth 4 bs p j)) n))
+
+pub cells-laid : (w : Width) (i : ℕ) (bs : List ℕ) (p n : ℕ) {a b : List ℕ} {at q : ℕ} → p + 2 * n < 2 ^ 64 → Laid a b at (up_to (cell_list w i bs p).of n) q
+    → Laid a b at (up_to (λ j. cell_calls w i j (value (part bs (p + 2 * j) 2))) n) q × (q ≤ at + setting_most * n)
+cells-laid w i bs p n {a} {b} {at} {q} l m =
+    (subst (λ (xs : List ℕ). Laid a b at xs q) (cells-seen w i bs p n l) m, omega (arith, m.next, up_to-short (cell_list w i bs p).of setting_most (λ j. cell_short w i j (nth 2 bs p j)) n))
+
+-- ---- the cells row by row
+
+-- the cells of so many rows, of t columns, from p on
+abbrev pub row_cells : Width → ℕ → List ℕ → ℕ → ℕ → List ℕ
+row_cells w t bs p e = cell_calls w (e / t) (e % t) (value (part bs (p + 2 * e) 2))
+
+-- one row more
+row-next : (w : Width) (t : ℕ) (bs : List ℕ) (p i : ℕ) → up_to (row_cells w t bs p) (i * t) ++ up_to (λ j. cell_calls w i j (value (part bs (p + 2 * (i * t) + 2 * j) 2))) t ≡ up_to (row_cells w t bs p) ((i + 1) * t)
+row-next w t bs p i =
+    let s : (i + 1) * t ≡ i * t + t = omega arith in
+    let e = up_to-same (λ j. row_cells w t bs p (i * t + j)) (λ j. cell_calls w i j (value (part bs (p + 2 * (i * t) + 2 * j) 2))) t
+    (λ j l. let c : i * t + j ≡ t * i + j = omega arith in let d : (i * t + j) / t ≡ i = rw c (mul-add-div (omega arith) i j ∙ rw (div-eq_of_lt l, add-zero)) in let m : (i * t + j) % t ≡ j = rw c (mul-add-mod_self_left t i j ∙ mod-eq_of_lt l) in let q : p + 2 * (i * t + j) ≡ p + 2 * (i * t) + 2 * j = omega arith in rw (d, m, q)) in
+    rw (s, up_to-append (row_cells w t bs p) (i * t) t, e)
+
+pub rows-next : (w : Width) (t : ℕ) (bs : List ℕ) (p i : ℕ) {a b b' : List ℕ} {at q q' : ℕ} → Laid a b at (up_to (row_cells w t bs p) (i * t)) q
+    → Laid b b' q (up_to (λ j. cell_calls w i j (value (part bs (p + 2 * (i * t) + 2 * j) 2))) t) q' → Laid a b' at (up_to (row_cells w t bs p) ((i + 1) * t)) q'
+rows-next w t bs p i {a} {b} {b'} {at} {q} {q'} l m = subst (λ (xs : List ℕ). Laid a b' at xs q') (row-next w t bs p i) (laid_on l m)
+
+pub rows-short : (w : Width) (t : ℕ) (bs : List ℕ) (p n : ℕ) → length (up_to (row_cells w t bs p) n) ≤ setting_most * n
+rows-short w t bs p n = up_to-short (row_cells w t bs p) setting_most (λ e. cell_short w (e / t) (e % t) (value (part bs (p + 2 * e) 2))) n
+
+pub rows-laid : (w : Width) (t : ℕ) (bs : List ℕ) (p n : ℕ) {a b : List ℕ} {at q : ℕ} → Laid a b at (up_to (row_cells w t bs p) n) q
+    → Laid a b at (each_set (λ e v. call (Cell w) (e / t ∷ e % t ∷ v ∷ [])) 65535 0 (fields_at as_is (replicate n (fld 2)) bs p)) q
+rows-laid w t bs p n l = set-laid as_is (fld 2) bs (λ e v. call (Cell w) (e / t ∷ e % t ∷ v ∷ [])) 65535 (λ v. refl) n p l
 
 -- a list of references is as long whatever they are
 pub length-each : (k : Kind) (g : ℕ → ℕ) (y n : ℕ) (bs : List ℕ) (p : ℕ) → length (each k (fields_at g (replicate n (to y)) bs p)) ≡ suc (width (body k)) * n
 unfolding each
 length-each k g y zero bs p = sym (mul-zero _)
 length-each k g y (suc n) bs p = rw (length-append, length-call, length-each k g y n bs (p + 4), mul-suc) (add_comm _ _)
-
--- nothing is laid
-pub none-laid : (a : List ℕ) (p : ℕ) → Laid a a p [] p
-none-laid a p = all_laid (all-coming a p [])

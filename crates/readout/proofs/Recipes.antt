@@ -9,10 +9,13 @@ use lib.Dec.{eqb}
 use Rattle.format.specs.Bytes.{Answer, refused, and_then, at, over}
 use Rattle.format.specs.Table.{Table, revision}
 use Rattle.format.specs.Read.{own}
-use Rattle.format.specs.Build.{fitting}
+use Rattle.format.specs.Build.{fitting, written}
 use Rattle.format.specs.Normal.{head_call}
 use Rattle.format.specs.Out.{head_in}
 use Rattle.laws.proofs.Bytes.{length_part}
+use Rattle.readout.specs.declared.ReadOutError.{ReadOutError}
+use Rattle.readout.specs.declared.ReadOutError.TheVariants.{Refused, Revision, Unknown, Retired, Room}
+use Rattle.readout.specs.Answers.{refused_by}
 use Rattle.readout.specs.Laid.{Laid}
 use Rattle.readout.specs.Places.{calls_at, measured, recipe_as, out_as}
 use Rattle.readout.proofs.Lists.{laid_on}
@@ -32,3 +35,20 @@ module _ (t : Table) (b : List ℕ) (room : ℕ) where
   pub by-measure : (m : Answer ℕ) → eqb (at b 8) (revision t) ≡ true → m ≡ measured t (at b 8) (own b) → out_as t b room ≡ and_then m (fitting 31 room)
   unfolding out_as
   by-measure m e f = rw (e, f)
+
+-- ---- refusals: nothing follows them, and nothing is written
+
+pub refused-stays : (e : ReadOutError) (f : ℕ → Answer ℕ) → and_then (refused_by e) f ≡ refused_by e
+refused-stays (Refused r) f = refl
+refused-stays Revision f = refl
+refused-stays (Unknown p) f = refl
+refused-stays (Retired p) f = refl
+refused-stays (Room n) f = refl
+
+pub refused-wrote : (e : ReadOutError) (xs bs : List ℕ) → written (refused_by e) xs bs ≡ bs
+unfolding written
+refused-wrote (Refused r) xs bs = refl
+refused-wrote Revision xs bs = refl
+refused-wrote (Unknown p) xs bs = refl
+refused-wrote (Retired p) xs bs = refl
+refused-wrote (Room n) xs bs = refl

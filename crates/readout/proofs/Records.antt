@@ -1,11 +1,10 @@
 -- The calls of a record, read by places: of a record without a list it is one call, of the others the list's calls follow it.
-use mathlib.Core.Path.{◌≡◌, refl, sym, ap, ◌∙◌}
-use Prim.Native.Nat.{ℕ, zero, suc, ◌+◌, ◌*◌, ◌/◌, ◌%◌, ◌≤◌, ◌<◌}
+use mathlib.Core.Path.{◌≡◌, refl, sym, ap, subst, ◌∙◌}
+use Prim.Native.Nat.{ℕ, zero, suc, ◌+◌, ◌*◌, ◌/◌, ◌%◌, ◌≤◌}
 use mathlib.Core.List.{List, [], ◌∷◌, ◌++◌, append_assoc}
 use mathlib.Core.Bool.{Bool, true, false}
 use native.Mathlib.Omega.{arith}
-use native.Mathlib.Nat.{add-zero, mul-zero, mul-le-mul, div-add-mod, mul-add-div, mul-add-mod_self_left, div_self, mod_self, div-eq_of_lt, mod-eq_of_lt, mod-lt}
-use borrow.Author.Tests.{eqb-true, eqb-false}
+use native.Mathlib.Nat.{mul-le-mul}
 use lib.Dec.{eqb}
 use lib.Seq.{take_at, drop_at, drop-drop}
 use lib.ListN.{length, length-append, take, drop, replicate, replicate-append-replicate}
@@ -35,9 +34,9 @@ use Rattle.cedt.specs.declared.CxlFixedMemory.{CxlFixedMemory}
 use Rattle.cedt.specs.declared.XorInterleaveMath.{XorInterleaveMath}
 use Rattle.cedt.specs.Cedt.{window_form, window_fields, window_node, maths_form, maths_fields, maths_head}
 use Rattle.read.proofs.Refs.{plain_row}
-use Rattle.readout.specs.Laid.{Laid}
+use Rattle.readout.specs.Laid.{Laid, Calls, up_to}
 use Rattle.readout.specs.Places.{setting, calls_in}
-use Rattle.readout.proofs.Lists.{length-each, low_word}
+use Rattle.readout.proofs.Lists.{length-each, low_word, resource_short, up_to-same, entry, calls_each, each-laid}
 
 -- the calls of a record are those of its fields by their places
 pub calls_at : (g : ℕ → ℕ) (f : Form) (bs : List ℕ) → calls_in g f bs ≡ calls f (fields_at g (layout f) bs 0)
@@ -77,6 +76,17 @@ module _ (g : ℕ → ℕ) (bs : List ℕ) where
       let s : cache_shown n ≡ fields_at as_is (layout cache) bs 0 = ap (λ (m : Node). m.values) (e ∙ node_at_lem as_is cache bs) in
       let w : call Cache (n.flags ∷ h.0 ∷ drop 2 (cache_shown n)) ≡ call Cache (n.flags ∷ g n.next_level.0 ∷ drop 2 (cache_shown n)) = rw (low_word h.0 (g n.next_level.0) r) in
       w ∙ ap (λ (vs : List ℕ). call Cache (at vs 0 ∷ g (at vs 1) ∷ drop 2 vs)) s ∙ sym (calls_at g cache bs)
+
+-- resources, each of whose references is laid by its low bytes
+abbrev pub resource_list : (ℕ → ℕ) → List ℕ → Calls
+resource_list g bs = calls_each g (to 1) bs Resource 20 (λ v. g v % 4294967296) resource_short
+
+pub resources-laid : (g : ℕ → ℕ) (bs : List ℕ) (n : ℕ) {a b : List ℕ} {at q : ℕ} → Laid a b at (up_to (resource_list g bs).of n) q
+    → Laid a b at (each Resource (fields_at g (replicate n (to 1)) bs 20)) q × (q ≤ at + suc (width (body Resource)) * n)
+unfolding lay_with body
+resources-laid g bs n {a} {b} {at} {q} l =
+    let e = up_to-same (λ i. call Resource (g (entry g (to 1) bs 20 i) % 4294967296 ∷ [])) (λ i. call Resource (g (entry g (to 1) bs 20 i) ∷ [])) n (λ i k. rw (low_word _ (g (entry g (to 1) bs 20 i)) refl)) in
+    each-laid g (to 1) bs Resource g (λ v. refl) n 20 (subst (λ (xs : List ℕ). Laid a b at xs q) e l)
 
 -- ---- records with a list: the node before it, and the list
 
@@ -235,26 +245,5 @@ settings-at g bs w i t p x y a b =
     let (u, v, z) = three-parts A B C i t (length-list g bs i 4 p) (length-list g bs t 4 q) in
     rw (a, b, e, u, v, z, list-plain g i 4 bs p, list-plain g t 4 bs q, list-plain g (i * t) 2 bs (q + 4 * t))
 
-pub some-targets : (i t : ℕ) → 0 < i * t → 0 < t
-some-targets i zero h = absurd (omega (arith, rw mul-zero at h))
-some-targets i (suc t) h = omega arith
-
 pub few-cells : (i t : ℕ) → i ≤ most → t ≤ most → i * t ≤ most * most
 few-cells i t a b = mul-le-mul a b
-
--- row and column of the next cell
-pub next-cell : (t e : ℕ) → 0 < t → (pick (eqb (e % t + 1) t) (e / t + 1) (e / t) ≡ (e + 1) / t) × (pick (eqb (e % t + 1) t) 0 (e % t + 1) ≡ (e + 1) % t)
-next-cell t e h =
-    let s : e + 1 ≡ t * (e / t) + (e % t + 1) = omega (arith, div-add-mod e t) in
-    let d : (e + 1) / t ≡ e / t + (e % t + 1) / t = rw s (mul-add-div h (e / t) (e % t + 1)) in
-    let m : (e + 1) % t ≡ (e % t + 1) % t = rw s (mul-add-mod_self_left t (e / t) (e % t + 1)) in
-    by (eqb (e % t + 1) t) refl d m
-  where
-    by : (x : Bool) → eqb (e % t + 1) t ≡ x → (e + 1) / t ≡ e / t + (e % t + 1) / t → (e + 1) % t ≡ (e % t + 1) % t
-        → (pick x (e / t + 1) (e / t) ≡ (e + 1) / t) × (pick x 0 (e % t + 1) ≡ (e + 1) % t)
-    by true q d m =
-        let z = eqb-true (e % t + 1) t q in
-        (sym (d ∙ rw (z, div_self h)), sym (m ∙ rw (z, mod_self)))
-    by false q d m =
-        let l : e % t + 1 < t = omega (arith, mod-lt e h, eqb-false (e % t + 1) t q) in
-        (sym (d ∙ rw (div-eq_of_lt l, add-zero)), sym (m ∙ mod-eq_of_lt l))

@@ -4,10 +4,12 @@ use Prim.Native.Nat.{ℕ, ◌+◌, ◌≤◌, ◌<◌}
 use mathlib.Core.List.{List}
 use mathlib.Core.Bool.{Bool, true, false}
 use mathlib.Core.Option.{Option, none, some}
+use Rattle.std.specs.Prelude.{Some, None}
+use Rattle.std.specs.Prelude as std
 use native.Mathlib.Omega.{arith}
 use lib.ListN.{length, length-append, drop}
 use lib.Dec.{eqb, leb}
-use borrow.Author.Tests.{eqb-true, ne_eqb, leb-true}
+use borrow.Author.Tests.{eqb-true, leb-true}
 use Rattle.format.specs.Bytes.{pick, value, part, refused, given, and_then, unless_found, over}
 use Rattle.format.specs.Layout.{as_is}
 use Rattle.format.specs.Table.{Table, front, limit, revision}
@@ -18,9 +20,11 @@ use Rattle.laws.proofs.Found.{counted-row}
 use Rattle.laws.proofs.Lays.{both_true}
 use Rattle.laws.proofs.Masks.{row-then}
 use Rattle.frames.specs.Frames.{ahead, record_in}
+use Rattle.rows.specs.declared.Row as rows
+use Rattle.rows.specs.Rows.{row_meant}
 use Rattle.frames.proofs.Places.{framed_then, record_at, next, ahead-end, ahead-bad, ahead-next, room}
 use Rattle.readout.specs.Laid.{Laid}
-use Rattle.readout.specs.Places.{Small, ordinal_at, calls_as, is_row, calls_from, unless_unknown, first_old, noted, calls_at, measured}
+use Rattle.readout.specs.Places.{Small, ordinal_at, calls_as, is_row, calls_from, unless_unknown, first_old, or_else, calls_at, measured}
 use Rattle.readout.proofs.Lists.{Coming, all-coming, all_laid, come}
 
 -- a record of a row is small
@@ -40,6 +44,11 @@ small-record t rev ty bs l =
 
     both_of : (w : Width) → row_of t rev ty bs ≡ some (matrices w) → (value (part bs 12 4) ≤ most) × (value (part bs 16 4) ≤ most)
     both_of w e = (counted-row w (value (part bs 12 4)) (value (part bs 16 4)) (both_true (leb 32 (length bs)) _ (column-of (matrices w) e)).1).1
+
+-- a row that is not there is unknown
+pub no-row : (o : std.Option rows.Row) → ((r : rows.Row) → o ≡ Some r → ⊥) → is_row (row_meant o) ≡ false
+no-row None h = refl
+no-row (Some r) h = absurd (h r refl)
 
 -- what a turn learns that finds the record bs at p, of this row; s is what stands there
 pub record Turn (t : Table) (rev : ℕ) (c : List ℕ) (p : ℕ) (bs : List ℕ) (o : Option Row) : Type 0 where
@@ -89,60 +98,52 @@ module _ (t : Table) (rev : ℕ) (c a : List ℕ) where
 
 -- ---- the walk that measures
 
--- the first place so far, or else the one that comes
-abbrev or_else : Option ℕ → Option ℕ → Option ℕ
-or_else none q = q
-or_else (some p) q = some p
-
 or-none : (o : Option ℕ) → or_else o none ≡ o
 or-none none = refl
 or-none (some p) = refl
 
 -- one record more, at p: x says whether its row is retired
-or-next : (o p : ℕ) (x : Bool) (more : Option ℕ) → 0 < p → or_else (noted o) (pick x (some p) more) ≡ or_else (noted (pick (eqb o 0) (pick x p 0) o)) more
-or-next o p x more l = by (eqb o 0) x refl
-  where
-    by : (y x : Bool) → eqb o 0 ≡ y → or_else (pick y none (some o)) (pick x (some p) more) ≡ or_else (noted (pick y (pick x p 0) o)) more
-    by true true e = rw (ne_eqb p 0 (λ z. omega arith))
-    by true false e = refl
-    by false x e = rw e
+or-next : (o : Option ℕ) (p : ℕ) (x : Bool) (more : Option ℕ) → or_else o (pick x (some p) more) ≡ or_else (or_else o (pick x (some p) none)) more
+or-next none p true more = refl
+or-next none p false more = refl
+or-next (some q) p x more = refl
 
 module _ (t : Table) (rev : ℕ) (c : List ℕ) where
   -- from place p on the calls are still to be counted, behind q bytes; o: the place of the first record of a retired row so far
-  pub record Counting (p q o : ℕ) : Type 0 where
+  pub record Counting (p q : ℕ) (o : Option ℕ) : Type 0 where
     pub coming : q + length (calls_from t rev (ordinal_at t c) (ahead t c p)) ≡ 28 + length (calls_at t rev c)
-    pub told : measured t rev c ≡ and_then (unless_unknown t rev (28 + length (calls_at t rev c)) (ahead t c p)) (λ n. unless_found 32 as_is (or_else (noted o) (first_old t rev (ahead t c p))) (given n))
+    pub told : measured t rev c ≡ and_then (unless_unknown t rev (28 + length (calls_at t rev c)) (ahead t c p)) (λ n. unless_found 32 as_is (or_else o (first_old t rev (ahead t c p))) (given n))
 
-  pub counting-start : Counting (front t) 28 0
+  pub counting-start : Counting (front t) 28 none
   unfolding calls_at measured
   counting-start = record { coming = refl; told = refl }
 
-  module _ {p q o : ℕ} where
-    pub counting-end : length c ≤ p → Counting p q o → unless_found 32 as_is (noted o) (given q) ≡ measured t rev c
+  module _ {p q : ℕ} {o : Option ℕ} where
+    pub counting-end : length c ≤ p → Counting p q o → unless_found 32 as_is o (given q) ≡ measured t rev c
     unfolding calls_from unless_unknown first_old
     counting-end l w =
         let e : q + 0 ≡ 28 + length (calls_at t rev c) = rw (ahead-end t c p l) at w.coming in
         let z : q ≡ 28 + length (calls_at t rev c) = omega (arith, e) in
-        ap (λ (n : ℕ). unless_found 32 as_is (noted o) (given n)) z ∙ sym (rw (ahead-end t c p l, or-none) at w.told)
+        ap (λ (n : ℕ). unless_found 32 as_is o (given n)) z ∙ sym (rw (ahead-end t c p l, or-none) at w.told)
 
-    pub counting-bad : p < length c → framed t (drop p c) ≡ false → Counting p q o → unless_found 32 as_is (noted o) (given q) ≡ measured t rev c
+    pub counting-bad : p < length c → framed t (drop p c) ≡ false → Counting p q o → unless_found 32 as_is o (given q) ≡ measured t rev c
     unfolding calls_from unless_unknown first_old
     counting-bad l f w =
         let e : q + 0 ≡ 28 + length (calls_at t rev c) = rw (ahead-bad t c p l f) at w.coming in
         let z : q ≡ 28 + length (calls_at t rev c) = omega (arith, e) in
-        ap (λ (n : ℕ). unless_found 32 as_is (noted o) (given n)) z ∙ sym (rw (ahead-bad t c p l f, or-none) at w.told)
+        ap (λ (n : ℕ). unless_found 32 as_is o (given n)) z ∙ sym (rw (ahead-bad t c p l f, or-none) at w.told)
 
     module _ {bs : List ℕ} {row : Option Row} (T : Turn t rev c p bs row) where
       pub counting-unknown : is_row row ≡ false → Counting p q o → refused 29 p ≡ measured t rev c
       unfolding unless_unknown
       counting-unknown u w = sym (rw (ahead-next t c p T.frame, rw T.row at u) at w.told)
 
-      pub counting-next : (n o' : ℕ) → 0 < p → is_row row ≡ true → n ≡ length (calls_as (ordinal_at t c p) row bs) → o' ≡ pick (eqb o 0) (pick (is_retired row) p 0) o → Counting p q o
+      pub counting-next : (n : ℕ) (o' : Option ℕ) → is_row row ≡ true → n ≡ length (calls_as (ordinal_at t c p) row bs) → o' ≡ or_else o (pick (is_retired row) (some p) none) → Counting p q o
           → Counting (p + length bs) (q + n) o'
       unfolding calls_from unless_unknown first_old
-      counting-next n o' pos u l i w =
+      counting-next n o' u l i w =
           let f = ahead-next t c p T.frame in
           let k = rw T.row at u in
           let e = rw (f, k, length-append) at w.coming in
           let m = rw (T.row, T.body) at l in
-          rw (T.body, i, T.row) (record { coming = omega (arith, e, m); told = rw (f, k, or-next o p (is_retired (row_of t rev (type_in t (record_at t c p)) (record_at t c p))) (first_old t rev (ahead t c (next t c p))) pos) at w.told })
+          rw (T.body, i, T.row) (record { coming = omega (arith, e, m); told = rw (f, k, or-next o p (is_retired (row_of t rev (type_in t (record_at t c p)) (record_at t c p))) (first_old t rev (ahead t c (next t c p)))) at w.told })

@@ -1,13 +1,15 @@
 -- A table's recipe by the places of its records: what stands for a reference, and the calls of one record after the other. c: a table's own bytes.
-use Rattle.std.specs.Prelude.{◌≡◌, ℕ, ◌+◌, ◌≤◌, List, [], ◌∷◌, ◌++◌, Bool, true, false, length, eqb, ltb}
+use Rattle.std.specs.Prelude.{◌≡◌, ℕ, ◌+◌, ◌*◌, ◌-◌, ◌^◌, min, ◌≤◌, List, [], ◌∷◌, ◌++◌, Bool, true, false, length, eqb, ltb}
+use Rattle.std.specs.Prelude.{Some, None}
+use Rattle.std.specs.Prelude as std
 use Rattle.std.proofs.Math.Option.{Option, none, some}
 use Rattle.format.specs.Bytes.{pick, Answer, refused, given, and_then, unless_found, at, value, part}
 use Rattle.format.specs.Layout.{as_is, lay, fields_with}
 use Rattle.format.specs.Table.{Table, limit, revision}
 use Rattle.format.specs.Form.{Form, Width, most, layout}
 use Rattle.format.specs.Row.{Row, processors, caches, matrices, row_of, form_in, is_retired}
-use Rattle.format.specs.Kind.{Initiator, body}
-use Rattle.format.specs.Normal.{calls, head_call}
+use Rattle.format.specs.Kind.{Initiator, Cell, body}
+use Rattle.format.specs.Normal.{call, calls, head_call}
 use Rattle.format.specs.Read.{own, type_in, Frames, ended, bad_frame, framed_at}
 use Rattle.format.specs.Build.{fitting}
 use Rattle.format.specs.Out.{head_in}
@@ -24,6 +26,17 @@ ordinal_at t c own v = pick (ltb v own) (numbered 1 v (frames_of t c)) 0
 -- a setting of an initiator or a target: kind, index of width w, number
 abbrev pub setting : Width → ℕ → ℕ → ℕ → List ℕ
 setting w kind j v = kind ∷ lay (body (Initiator w)) (j ∷ v ∷ [])
+
+-- the number at j, of w bytes, of those from p on; no place is past the last one
+abbrev pub nth : ℕ → List ℕ → ℕ → ℕ → ℕ
+nth w bs p j = value (part bs (min (p + w * j) (2 ^ 64 - 1)) w)
+
+-- what is said of a setting, and of the cell of row i and column j: nothing where the value is unset
+abbrev pub value_calls : Width → ℕ → ℕ → ℕ → List ℕ
+value_calls w kind j v = pick (eqb v 0) [] (setting w kind j v)
+
+abbrev pub cell_calls : Width → ℕ → ℕ → ℕ → List ℕ
+cell_calls w i j v = pick (eqb v 65535) [] (call (Cell w) (i ∷ j ∷ v ∷ []))
 
 -- the calls of a record's node, each reference read by g
 unfoldable pub calls_in : (ℕ → ℕ) → Form → List ℕ → List ℕ
@@ -59,9 +72,15 @@ first_old t rev ended = none
 first_old t rev (bad_frame p) = none
 first_old t rev (framed_at p bs rest) = pick (is_retired (row_of t rev (type_in t bs) bs)) (some p) (first_old t rev rest)
 
--- a place as the walk keeps it: 0 stands for none
-abbrev pub noted : ℕ → Option ℕ
-noted p = pick (eqb p 0) none (some p)
+-- a place as the walk keeps it
+abbrev pub noted : std.Option ℕ → Option ℕ
+noted None = none
+noted (Some p) = some p
+
+-- the first place so far, or else the one that comes
+abbrev pub or_else : Option ℕ → Option ℕ → Option ℕ
+or_else none q = q
+or_else (some p) q = some p
 
 -- no more bytes than a table has, of a processor and a cache the bytes of its fields, and of a matrix no more initiators and targets than the most
 pub record Small (row : Option Row) (bs : List ℕ) : Type 0 where

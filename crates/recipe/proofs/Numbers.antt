@@ -6,6 +6,7 @@ use mathlib.Core.Option.{none}
 use native.Mathlib.Omega.{arith}
 use lib.Dec.{leb}
 use borrow.Author.Tests.{ne_eqb, leb-true}
+use Rattle.std.specs.Prelude.{Result, Ok, Err}
 use Rattle.format.specs.Bytes.{all, has}
 use Rattle.format.specs.Table.{Table, pptt, srat, hmat, cedt, limit}
 use Rattle.format.specs.Layout.{width}
@@ -18,8 +19,7 @@ use Rattle.laws.proofs.Fields.{good-fields}
 use Rattle.hmat.specs.declared.SystemLocality.{SystemLocality}
 use Rattle.hmat.specs.Hmat.{matrix_form, matrix_fields, matrix_head}
 use Rattle.recipe.specs.declared.Kind as code
-use Rattle.recipe.specs.declared.Named.{Named}
-use Rattle.recipe.specs.declared.Named.TheVariants as is
+use Rattle.recipe.specs.declared.Unnamed.{Unnamed}
 use Rattle.recipe.specs.Kinds.{named}
 
 abbrev pub first : Table → ℕ
@@ -48,10 +48,9 @@ nowhere hmat b p s h c = unnamed hmat b h
 nowhere cedt b p s h c = unnamed cedt b c
 
 -- what is no kind is none
-pub no_kind_lem : (n : Named) → ((k : code.Kind) → n ≡ is.As k → ⊥) → named n ≡ none
-no_kind_lem (is.As k) h = absurd (h k refl)
-no_kind_lem is.Retired h = refl
-no_kind_lem is.Nothing h = refl
+pub no_kind_lem : (n : Result code.Kind Unnamed) → ((k : code.Kind) → n ≡ Ok k → ⊥) → named n ≡ none
+no_kind_lem (Ok k) h = absurd (h k refl)
+no_kind_lem (Err u) h = refl
 
 -- a number that is at least a, and not a
 pub past : {a b : ℕ} → a ≤ b → (b ≡ a → ⊥) → suc a ≤ b

@@ -13,8 +13,7 @@ use Rattle.format.specs.Bytes.{pick, at}
 use Rattle.format.specs.Table.{Table}
 use Rattle.format.specs.Form.{Width, type_of}
 use Rattle.format.specs.Node.{Node, starts, is_ordinal, at_ordinal}
-use Rattle.recipe.specs.declared.State.{State}
-use Rattle.recipe.specs.Machine.{state_of, types_of, of_type, Typed}
+use Rattle.recipe.specs.Machine.{Counts, state_of, types_of, of_type, Typed}
 use Rattle.laws.proofs.Links.{length-starts}
 use Rattle.recipe.proofs.Types.{read-type}
 
@@ -75,7 +74,7 @@ module _ {A : Type 0} (a b c : A) where
   once-joined false true o = refl
   once-joined false false o = refl
 
-  module _ (ws : List ℕ) (t : Table) (u : Width) (s : State) (to ty : ℕ) where
+  module _ (ws : List ℕ) (t : Table) (u : Width) (s : Counts) (to ty : ℕ) where
     pub refers-new : (ns : List Node) → s ≡ state_of t u ns → Typed ws (types_of ns)
         → pick (not (pick (eqb to 0) true (is_ordinal (length ns) to ty))) a (pick (not (pick (eqb to 0) true (at_ordinal (starts t ns) to ty))) b c)
         ≡ pick (not (ltb to (s.nodes + 1))) a (pick (not (pick (eqb to 0) true (of_type ws to ty))) b c)

@@ -1,6 +1,6 @@
 -- What one record does to the state: the nodes that the state stands for grow by it, or the newest of them changes.
 use mathlib.Core.Path.{◌≡◌, refl, sym, ap, ◌∙◌}
-use Prim.Native.Nat.{ℕ, suc, ◌+◌, ◌-◌, ◌^◌, ◌≤◌, ◌<◌}
+use Prim.Native.Nat.{ℕ, zero, suc, ◌+◌, ◌-◌, ◌^◌, ◌≤◌, ◌<◌}
 use mathlib.Core.List.{List, [], ◌∷◌, ◌++◌}
 use mathlib.Core.Option.{some}
 use mathlib.Core.Bool.{Bool, true, false, not}
@@ -9,7 +9,8 @@ use native.Mathlib.Nat.{add-zero, add_assoc}
 use native.Mathlib.Numerals.{add-one}
 use lib.ListN.{length, take, length-append}
 use lib.Dec.{eqb, leb, ltb}
-use borrow.Author.Tests.{le-ltb, le-leb, leb-true}
+use borrow.Author.Tests.{ne_eqb, le-ltb, le-leb, leb-true}
+use Rattle.std.specs.Prelude.{Option, Result, Ok, Err}
 use Rattle.format.specs.Bytes.{pick, both, all, first_of, Answer, refused, given, unless, Bytes, at}
 use Rattle.format.specs.Layout.{width, fields_with, fields, refs_good}
 use Rattle.format.specs.Table.{Table, front, limit}
@@ -25,20 +26,23 @@ use Rattle.laws.proofs.Shapes.{second}
 use Rattle.laws.proofs.Grows.{View, sees_processor, sees_matrix, sees_side, sees_window, sees_xor, sees_other, view}
 use Rattle.laws.proofs.Fields.{all-bad, good-fields, body-window, fields-now}
 use Rattle.hmat.specs.declared.Width as code
+use Rattle.hmat.specs.contracts.Width.{the_type}
 use Rattle.hmat.specs.Widths.{meant_width, width_named}
+use Rattle.hmat.proofs.Widths.{same-width}
+use denote.Enum.Bare.{sameb}
+use Rattle.recipe.specs.declared.Refusal.TheVariants.{Misplaced}
+use Rattle.recipe.specs.declared.Fault.{Fault}
+use Rattle.recipe.specs.declared.Fault.TheVariants.{Record}
 use Rattle.recipe.specs.declared.Newest as kept
 use Rattle.recipe.specs.declared.Newest.TheVariants as is
-use Rattle.recipe.specs.declared.State.{State}
-use Rattle.recipe.specs.declared.Refusal.TheVariants.{TooLong}
-use Rattle.recipe.specs.declared.Step.{Step}
-use Rattle.recipe.specs.declared.Step.TheVariants.{Next, Refused, BadField}
-use Rattle.recipe.specs.Machine.{newest_kept, state_of, Sound, Begun, grown, made_by, types_of, of_type, refers, Typed, stepped, turn}
+use Rattle.field.specs.Place.{place_or_none}
+use Rattle.recipe.specs.Machine.{newest_kept, Counts, state_of, Begun, grown, made_by, counted, stepped, types_of, of_type, refers, Typed, turn}
 use Rattle.recipe.proofs.Refers.{refers-new, refers-joined}
 
 -- ---- the tests one by one
 
 -- the answer by what a record of kind k asks for and does; vs: its fields, p: its place, u: how wide the newest matrix's counts are written
-abbrev judged : Table → Width → Kind → List ℕ → ℕ → Asked → Answer State
+abbrev judged : Table → Width → Kind → List ℕ → ℕ → Asked → Answer Counts
 judged t u k vs p x =
     pick (not (both x.placed (suits (part_in k) u))) (refused 4 p)
     (pick (not (all x.ranges)) (refused 5 (p + bad_in k x.ranges))
@@ -55,7 +59,7 @@ turn-judged t u ns k bs p =
     go (not (both x.placed (suits (part_in k) u))) (not (all x.ranges)) (not (refs_good (is_ordinal (length x.earlier)) (body k) vs)) (not (refs_good (at_ordinal (starts t x.earlier)) (body k) vs))
     x.full (ltb limit (front t + sizes x.nodes)) (bad_in k x.ranges) (state_of t (width_behind (part_in k) u) x.nodes)
   where
-    go : (a b w c d e : Bool) (bad : ℕ) (s : State)
+    go : (a b w c d e : Bool) (bad : ℕ) (s : Counts)
         → (let n : ℕ = first_of ((a, 4) ∷ (b, 5) ∷ (w, 6) ∷ (c, 10) ∷ (d, 7) ∷ (e, 8) ∷ []) in unless n (p + pick (eqb n 5) bad 0) (given s))
         ≡ pick a (refused 4 p) (pick b (refused 5 (p + bad)) (pick w (refused 6 p) (pick c (refused 10 p) (pick d (refused 7 p) (pick e (refused 8 p) (given s))))))
     go true b w c d e bad s = rw (add-zero p)
@@ -73,18 +77,14 @@ turn-window t u ns k bs p = rw (body-window k bs (width (body k)) (omega arith))
 -- ---- the nodes grow
 
 -- the state with them, if the table is not too long
-pub grown-turn : (t : Table) (u v : Width) (ns ms : List Node) (p : ℕ) (s : State) (n by : ℕ) (w : kept.Newest) → s ≡ state_of t u ns
+pub grown-turn : (t : Table) (u v : Width) (ns ms : List Node) (p : ℕ) (s : Counts) (n by : ℕ) (w : kept.Newest) → s ≡ state_of t u ns
     → n ≡ length ms → front t + sizes ns + by ≡ front t + sizes ms → w ≡ newest_kept v (newest ms)
-    → stepped p (grown s n by w) ≡ pick (ltb limit (front t + sizes ms)) (refused 8 p) (given (state_of t v ms))
-grown-turn t u v ns ms p s n by w e a b c = rw (e, a, b, c) (go (ltb limit (front t + sizes ms)))
-  where
-    go : (x : Bool) → stepped p (pick x (Refused TooLong) (Next (state_of t v ms))) ≡ pick x (refused 8 p) (given (state_of t v ms))
-    go true = refl
-    go false = refl
+    → grown p s n by w ≡ pick (ltb limit (front t + sizes ms)) (refused 8 p) (given (state_of t v ms))
+grown-turn t u v ns ms p s n by w e a b c = rw (e, a, b, c)
 
 -- by a new node
-made-turn : (t : Table) (u v : Width) (ns : List Node) (f : Form) (vs : List ℕ) (p : ℕ) (s : State) → s ≡ state_of t u ns
-    → stepped p (grown s (s.nodes + 1) (size f) (newest_kept v (newest_as f vs ns)))
+made-turn : (t : Table) (u v : Width) (ns : List Node) (f : Form) (vs : List ℕ) (p : ℕ) (s : Counts) → s ≡ state_of t u ns
+    → grown p s (s.nodes + 1) (size f) (newest_kept v (newest_as f vs ns))
     ≡ pick (ltb limit (front t + sizes (node f vs ∷ ns))) (refused 8 p) (given (state_of t v (node f vs ∷ ns)))
 unfolding sizes
 made-turn t u v ns f vs p s e =
@@ -94,18 +94,19 @@ made-turn t u v ns f vs p s e =
 module _ (k : Kind) (f : Form) (bs us : List ℕ) (alone : part_in k ≡ apart) (own : maker f ≡ some k)
     (same : (ns : List Node) → step k (fields (body k) bs) ns ≡ makes (ranges f (fields (body k) bs)) (node f us) ns)
     (free : (ok : ℕ → ℕ → Bool) (vs : List ℕ) → refs_good ok (body k) vs ≡ true) where
-  pub plain_turn : (t : Table) (u : Width) (ns : List Node) (p : ℕ) (s : State) (bad : ℕ) → bad ≡ bad_field (node f (fields (body k) bs)) → s ≡ state_of t u ns
-      → stepped p (made_by s bad (size f) (newest_kept u (newest_as f us ns))) ≡ turn t u ns k bs p
+  pub plain_turn : (t : Table) (u : Width) (ns : List Node) (p : ℕ) (s : Counts) (bad : Option ℕ) → bad ≡ place_or_none (bad_field (node f (fields (body k) bs))) → s ≡ state_of t u ns
+      → made_by p s bad (size f) (newest_kept u (newest_as f us ns)) ≡ turn t u ns k bs p
   unfolding bad_field
   plain_turn t u ns p s bad h e =
       let vs : List ℕ = fields (body k) bs in
       let a : turn t u ns k bs p ≡ judged t u k vs p (makes (ranges f vs) (node f us) ns) = turn-judged t u ns k bs p ∙ ap (judged t u k vs p) (same ns) in
-      let b : bad ≡ bad_in k (ranges f vs) = h ∙ rw own in
-      sym (a ∙ rw (alone, free (is_ordinal (length ns)) vs, free (at_ordinal (starts t ns)) vs, good-fields (node f vs), own, ← b) (go (eqb bad 0) _ _ (made-turn t u u ns f us p s e)))
+      let b : bad ≡ place_or_none (bad_in k (ranges f vs)) = h ∙ rw own in
+      rw b (sym (a ∙ rw (alone, free (is_ordinal (length ns)) vs, free (at_ordinal (starts t ns)) vs, good-fields (node f vs), own) (go (bad_in k (ranges f vs)) _ (made-turn t u u ns f us p s e))))
     where
-      go : (b : Bool) (x : Step) (y : Answer State) → stepped p x ≡ y → pick (not b) (refused 5 (p + bad)) y ≡ stepped p (pick b x (BadField bad))
-      go true x y q = sym q
-      go false x y q = refl
+      go : (n : ℕ) (y : Answer Counts) → grown p s (s.nodes + 1) (size f) (newest_kept u (newest_as f us ns)) ≡ y
+          → pick (not (eqb n 0)) (refused 5 (p + n)) y ≡ made_by p s (place_or_none n) (size f) (newest_kept u (newest_as f us ns))
+      go zero y q = sym q
+      go (suc n) y q = rw (ne_eqb (suc n) 0 (λ z. omega arith))
 
 -- ---- matrices
 
@@ -131,18 +132,19 @@ unfolding body refs_good
 matrix-free w ok vs = refl
 
 -- the answer to it
-pub matrix-turn : (w : Width) (t : Table) (u : Width) (ns : List Node) (p : ℕ) (s : State) (bs : List ℕ) (bad : ℕ)
+pub matrix-turn : (w : Width) (t : Table) (u : Width) (ns : List Node) (p : ℕ) (s : Counts) (bs : List ℕ)
     → (let vs : List ℕ = fields (body (Matrix w)) bs in
     let f : Form = matrix (at vs 4) (at vs 5) in
-    at vs 4 < 256 ^ octets w → at vs 5 < 256 ^ octets w → bad ≡ bad_field (node f vs) → s ≡ state_of t u ns
-    → turn t u ns (Matrix w) bs p ≡ pick (not (eqb bad 0)) (refused 5 (p + bad)) (stepped p (grown s (s.nodes + 1) (size f) (is.Matrix (width_named w) (at vs 4) (at vs 5)))))
+    let bad : ℕ = bad_field (node f vs) in
+    at vs 4 < 256 ^ octets w → at vs 5 < 256 ^ octets w → s ≡ state_of t u ns
+    → turn t u ns (Matrix w) bs p ≡ pick (not (eqb bad 0)) (refused 5 (p + bad)) (grown p s (s.nodes + 1) (size f) (is.Matrix (width_named w) (at vs 4) (at vs 5))))
 unfolding step
-matrix-turn w t u ns p s bs bad a b h e =
+matrix-turn w t u ns p s bs a b e =
     let vs : List ℕ = fields (body (Matrix w)) bs in
     let f : Form = matrix (at vs 4) (at vs 5) in
-    let q : bad ≡ bad_in (Matrix w) (ranges f vs) = h ∙ matrix-asked w (at vs 4) (at vs 5) vs a b in
+    let q : bad_field (node f vs) ≡ bad_in (Matrix w) (ranges f vs) = matrix-asked w (at vs 4) (at vs 5) vs a b in
     turn-judged t u ns (Matrix w) bs p ∙ rw (matrix-free w (is_ordinal (length ns)) vs, matrix-free w (at_ordinal (starts t ns)) vs, all-bad 1 (body (Matrix w)) (ranges f vs) (omega arith), ← q)
-    (ap (pick (not (eqb bad 0)) (refused 5 (p + bad))) (sym (made-turn t u w ns f (unset (at vs 4) (at vs 5) vs) p s e)))
+    (ap (pick (not (eqb (bad_field (node f vs)) 0)) (refused 5 (p + bad_field (node f vs)))) (sym (made-turn t u w ns f (unset (at vs 4) (at vs 5) vs) p s e)))
 
 -- ---- references
 
@@ -161,12 +163,12 @@ module _ (ok : ℕ → ℕ → Bool) (vs : List ℕ) where
   resource-refs = both_right _
 
 -- new nodes that have one
-module _ (t : Table) (u : Width) (ns : List Node) (s : State) (e : s ≡ state_of t u ns) (ws : List ℕ) (w : Typed ws (types_of ns)) (p : ℕ) (bs : List ℕ) where
+module _ (t : Table) (u : Width) (ns : List Node) (s : Counts) (e : s ≡ state_of t u ns) (ws : List ℕ) (w : Typed ws (types_of ns)) (p : ℕ) (bs : List ℕ) where
   -- the answer to a record that refers to a node of the type ty, or none
-  abbrev referring : ℕ → ℕ → Answer State → Answer State
+  abbrev referring : ℕ → ℕ → Answer Counts → Answer Counts
   referring to ty a = pick (not (ltb to (s.nodes + 1))) (refused 6 p) (pick (not (pick (eqb to 0) true (of_type ws to ty))) (refused 10 p) a)
 
-  pub processor-turn : turn t u ns Processor bs p ≡ referring (refers Processor bs) 0 (stepped p (grown s (s.nodes + 1) 20 (is.Processor 0)))
+  pub processor-turn : turn t u ns Processor bs p ≡ referring (refers Processor bs) 0 (grown p s (s.nodes + 1) 20 (is.Processor 0))
   unfolding step
   processor-turn =
       turn-judged t u ns Processor bs p
@@ -177,20 +179,19 @@ module _ (t : Table) (u : Width) (ns : List Node) (s : State) (e : s ≡ state_o
       )
       (refers-new _ _ _ ws t u s (refers Processor bs) 0 ns e w)
 
-  pub cache-turn : (bad : ℕ) → bad ≡ bad_field (node cache (fields (body Cache) bs))
-      → turn t u ns Cache bs p
-      ≡ pick (not (eqb bad 0)) (refused 5 (p + bad)) (referring (refers Cache bs) 1 (stepped p (grown s (s.nodes + 1) 28 is.Other)))
+  pub cache-turn : (let bad : ℕ = bad_field (node cache (fields (body Cache) bs)) in
+      turn t u ns Cache bs p
+      ≡ pick (not (eqb bad 0)) (refused 5 (p + bad)) (referring (refers Cache bs) 1 (grown p s (s.nodes + 1) 28 is.Other)))
   unfolding step bad_field
-  cache-turn bad h =
+  cache-turn =
       turn-judged t u ns Cache bs p
       ∙ rw (
         good-fields (node cache (fields (body Cache) bs)),
-        ← h,
         cache-refs (is_ordinal (length ns)) (fields (body Cache) bs),
         cache-refs (at_ordinal (starts t ns)) (fields (body Cache) bs),
         made-turn t u u ns cache (fields (body Cache) bs) p s e,
       )
-      (ap (pick (not (eqb bad 0)) (refused 5 (p + bad))) (refers-new _ _ _ ws t u s (refers Cache bs) 1 ns e w))
+      (ap (pick (not (eqb (bad_field (node cache (fields (body Cache) bs))) 0)) (refused 5 (p + bad_field (node cache (fields (body Cache) bs))))) (refers-new _ _ _ ws t u s (refers Cache bs) 1 ns e w))
 
 -- ---- the newest node
 
@@ -222,13 +223,13 @@ pub parted-all : (u : Width) (ns : List Node) → Parted (newest_kept u (newest 
 parted-all u [] = refl
 parted-all u (n ∷ ns) = parted-as u n.form n.values ns
 
-pub parted : (t : Table) (u : Width) (ns : List Node) (s : State) (w : kept.Newest) → s ≡ state_of t u ns → s.newest ≡ w → Parted w ns
+pub parted : (t : Table) (u : Width) (ns : List Node) (s : Counts) (w : kept.Newest) → s ≡ state_of t u ns → s.newest ≡ w → Parted w ns
 parted t u ns s w e h =
-    let k : newest_kept u (newest ns) ≡ w = sym (ap (λ (s : State). s.newest) e) ∙ h in
+    let k : newest_kept u (newest ns) ≡ w = sym (ap (λ (s : Counts). s.newest) e) ∙ h in
     rw k at (parted-all u ns)
 
 -- a record that has nothing to join: the tags are those of the other variants
-module _ (t : Table) (u : Width) (ns : List Node) (s : State) (e : s ≡ state_of t u ns) where
+module _ (t : Table) (u : Width) (ns : List Node) (s : Counts) (e : s ≡ state_of t u ns) where
   pub stray-resource : (vs : List ℕ) → ((k : ℕ) → s.newest ≡ is.Processor k → ⊥) → joined Resource vs (newest ns) ≡ stray
   unfolding joined
   stray-resource vs h = go (view ns) (rw e at h)
@@ -286,17 +287,48 @@ module _ (t : Table) (u : Width) (ns : List Node) (s : State) (e : s ≡ state_o
       go sees_xor h = absurd (h _ refl)
       go sees_other h = refl
 
+width_back : (w : Width) → meant_width (width_named w) ≡ w
+width_back byte = refl
+width_back pair = refl
+
+-- widths that code tells apart, and those that it does not
+pub unlike : (v w : code.Width) → not (sameb the_type v w) ≡ true → eqb (octets (meant_width v)) (octets (meant_width w)) ≡ false
+unlike v w e = rw same-width at (not_true (sameb the_type v w) e)
+  where
+    not_true : (b : Bool) → not b ≡ true → b ≡ false
+    not_true true e = sym e
+    not_true false e = refl
+
+pub alike : (v w : code.Width) → not (sameb the_type v w) ≡ false → eqb (octets (meant_width v)) (octets (meant_width w)) ≡ true
+alike v w e = rw same-width at (not_false (sameb the_type v w) e)
+  where
+    not_false : (b : Bool) → not b ≡ false → b ≡ true
+    not_false true e = refl
+    not_false false e = sym e
+
+-- the counts that a state keeps are as wide as they were written
+pub kept-width : (t : Table) (u : Width) (ns : List Node) (s : Counts) (x : code.Width) (i j : ℕ) → s ≡ state_of t u ns → s.newest ≡ is.Matrix x i j → meant_width x ≡ u
+kept-width t u ns s x i j e h = by (view ns) (sym (ap (λ (s : Counts). s.newest) e) ∙ h)
+  where
+    by : {ns : List Node} {n : Newest} → View ns n → newest_kept u n ≡ is.Matrix x i j → meant_width x ≡ u
+    by sees_processor q = let z : ◌≡◌ {A = ℕ} 0 1 = cc in absurd (omega arith)
+    by sees_matrix q = let z : width_named u ≡ x = cc in rw (← z) (width_back u)
+    by sees_side q = let z : ◌≡◌ {A = ℕ} 0 1 = cc in absurd (omega arith)
+    by sees_window q = let z : ◌≡◌ {A = ℕ} 0 1 = cc in absurd (omega arith)
+    by sees_xor q = let z : ◌≡◌ {A = ℕ} 0 1 = cc in absurd (omega arith)
+    by sees_other q = let z : ◌≡◌ {A = ℕ} 0 1 = cc in absurd (omega arith)
+
 -- ---- records that join it
 
-module _ (t : Table) (u : Width) (s : State) (p : ℕ) (bs : List ℕ) where
+module _ (t : Table) (u : Width) (s : Counts) (p : ℕ) (bs : List ℕ) where
   module _ (n : ℕ) (ws : List ℕ) where
     -- the answer to a resource behind a processor with n of them
-    abbrev with_resource : Answer State
+    abbrev with_resource : Answer Counts
     with_resource =
         pick (eqb (refers Resource bs) 0) (refused 6 p)
         (pick (not (ltb (refers Resource bs) s.nodes)) (refused 6 p)
         (pick (not (of_type ws (refers Resource bs) 1)) (refused 10 p)
-        (pick (leb 58 n) (refused 7 p) (stepped p (grown s s.nodes 4 (is.Processor (n + 1)))))))
+        (pick (leb 58 n) (refused 7 p) (grown p s s.nodes 4 (is.Processor (n + 1))))))
 
     resource-at : (us : List ℕ) (ms : List Node) → s ≡ state_of t u (node (processor n) us ∷ ms) → Typed ws (types_of (node (processor n) us ∷ ms))
         → turn t u (node (processor n) us ∷ ms) Resource bs p ≡ with_resource
@@ -317,8 +349,8 @@ module _ (t : Table) (u : Width) (s : State) (p : ℕ) (bs : List ℕ) where
 
   module _ (n : ℕ) where
     -- the answer to a handle behind a side cache with n of them
-    abbrev with_handle : Answer State
-    with_handle = pick (leb 65535 n) (refused 7 p) (stepped p (grown s s.nodes 2 (is.Side (n + 1))))
+    abbrev with_handle : Answer Counts
+    with_handle = pick (leb 65535 n) (refused 7 p) (grown p s s.nodes 2 (is.Side (n + 1)))
 
     handle-at : (us : List ℕ) (ms : List Node) → s ≡ state_of t u (node (side n) us ∷ ms) → turn t u (node (side n) us ∷ ms) Handle bs p ≡ with_handle
     unfolding body step refs_good joined sizes
@@ -332,8 +364,8 @@ module _ (t : Table) (u : Width) (s : State) (p : ℕ) (bs : List ℕ) where
 
   module _ (n k : ℕ) where
     -- the answer to a target behind a window of n ways with k of them
-    abbrev with_target : Answer State
-    with_target = pick (leb n k) (refused 7 p) (stepped p (grown s s.nodes 0 (is.Window n (k + 1))))
+    abbrev with_target : Answer Counts
+    with_target = pick (leb n k) (refused 7 p) (grown p s s.nodes 0 (is.Window n (k + 1)))
 
     target_at_lem : (us : List ℕ) (ms : List Node) → 7 ≤ length us → length us - 7 ≡ k → s ≡ state_of t u (node (window n) us ∷ ms) → turn t u (node (window n) us ∷ ms) WindowTarget bs p ≡ with_target
     unfolding body fields_with step refs_good joined sizes
@@ -348,8 +380,8 @@ module _ (t : Table) (u : Width) (s : State) (p : ℕ) (bs : List ℕ) where
 
   module _ (n : ℕ) where
     -- the answer to a map behind maths with n of them
-    abbrev with_map : Answer State
-    with_map = pick (leb 255 n) (refused 7 p) (stepped p (grown s s.nodes 8 (is.Xor (n + 1))))
+    abbrev with_map : Answer Counts
+    with_map = pick (leb 255 n) (refused 7 p) (grown p s s.nodes 8 (is.Xor (n + 1)))
 
     map_at : (us : List ℕ) (ms : List Node) → s ≡ state_of t u (node (xor n) us ∷ ms) → turn t u (node (xor n) us ∷ ms) Map bs p ≡ with_map
     unfolding body step refs_good joined sizes
@@ -361,40 +393,43 @@ module _ (t : Table) (u : Width) (s : State) (p : ℕ) (bs : List ℕ) where
     pub map-turn : (ns : List Node) → s ≡ state_of t u ns → s.newest ≡ is.Xor n → turn t u ns Map bs p ≡ with_map
     map-turn ns e h = let (us, ms, q) = parted t u ns s (is.Xor n) e h in rw q (map_at us ms (rw q at e))
 
-  -- a setting of a kind k behind an i by j matrix, whose indices are of width w
-  module _ (w : Width) (i j : ℕ) (k : Kind) (part : part_in k ≡ sets w) (tests : ℕ → ℕ → List Bool) (field : ℕ → ℕ → ℕ) (v : ℕ) (small : Sound s)
+  -- a setting of a kind k, whose indices are of width w
+  module _ (w : Width) (k : Kind) (part : part_in k ≡ sets w) (tests : ℕ → ℕ → List Bool) (field : ℕ → ℕ → ℕ) (v : ℕ) (small : s.length ≤ limit)
       (same : (ns : List Node) → step k (fields (body k) bs) ns ≡ setting tests field v (newest ns))
       (free : (ok : ℕ → ℕ → Bool) (vs : List ℕ) → refs_good ok (body k) vs ≡ true) where
-    set_at : (us : List ℕ) (ms : List Node) → s ≡ state_of t u (node (matrix i j) us ∷ ms)
+    set_at : (i j : ℕ) (us : List ℕ) (ms : List Node) → s ≡ state_of t u (node (matrix i j) us ∷ ms)
         → turn t u (node (matrix i j) us ∷ ms) k bs p ≡ pick (not (suits (sets w) u)) (refused 4 p) (pick (not (all (tests i j))) (refused 5 (p + bad_in k (tests i j))) (given s))
     unfolding setting sizes
-    set_at us ms e =
+    set_at i j us ms e =
         let ns : List Node = node (matrix i j) us ∷ ms in
-        let l : front t + (sizes ms + size (matrix i j)) ≤ limit = rw e at small.short in
+        let l : front t + (sizes ms + size (matrix i j)) ≤ limit = rw e at small in
         turn-judged t u ns k bs p ∙ ap (judged t u k (fields (body k) bs) p) (same ns)
         ∙ rw (part, free (is_ordinal (length ms)) (fields (body k) bs), free (at_ordinal (starts t ms)) (fields (body k) bs), le-ltb limit _ l, e)
 
-    pub set-turn : (ns : List Node) (x : code.Width) → s ≡ state_of t u ns → s.newest ≡ is.Matrix x i j
+    pub set-turn : (i j : ℕ) (ns : List Node) (x : code.Width) → s ≡ state_of t u ns → s.newest ≡ is.Matrix x i j
         → turn t u ns k bs p ≡ pick (not (suits (sets w) u)) (refused 4 p) (pick (not (all (tests i j))) (refused 5 (p + bad_in k (tests i j))) (given s))
-    set-turn ns x e h = let (us, ms, q) = parted t u ns s (is.Matrix x i j) e h in rw q (set_at us ms (rw q at e))
+    set-turn i j ns x e h = let (us, ms, q) = parted t u ns s (is.Matrix x i j) e h in rw q (set_at i j us ms (rw q at e))
 
-    -- where code asks for the first bad field
-    pub set-asked : (bad : ℕ) → bad ≡ bad_in k (tests i j) → (ns : List Node) (x : code.Width) → s ≡ state_of t u ns → s.newest ≡ is.Matrix x i j
-        → turn t u ns k bs p ≡ pick (not (suits (sets w) u)) (refused 4 p) (pick (not (eqb bad 0)) (refused 5 (p + bad)) (given s))
-    set-asked bad q ns x e h = set-turn ns x e h ∙ rw (all-bad 1 (body k) (tests i j) (omega arith), ← q)
+    -- where code asks for the counts, and then for the first bad field
+    abbrev pub by_counts : Result (ℕ × ℕ) Fault → Answer Counts
+    by_counts (Err y) = stepped p (Err y)
+    by_counts (Ok c) = pick (not (eqb (bad_in k (tests c.0 c.1)) 0)) (refused 5 (p + bad_in k (tests c.0 c.1))) (given s)
 
-width_back : (w : Width) → meant_width (width_named w) ≡ w
-width_back byte = refl
-width_back pair = refl
+    pub set-counted : (x : code.Width) → meant_width x ≡ w → (ns : List Node) → s ≡ state_of t u ns → turn t u ns k bs p ≡ by_counts (counted s.newest x)
+    set-counted x q ns e = by s.newest refl
+      where
+        stands : ((v : code.Width) (i j : ℕ) → s.newest ≡ is.Matrix v i j → ⊥) → turn t u ns k bs p ≡ refused 4 p
+        stands h = turn-judged t u ns k bs p ∙ ap (judged t u k (fields (body k) bs) p) (same ns ∙ stray-setting t u ns s e tests field v h)
 
--- the counts that a state keeps are as wide as they were written
-pub kept-width : (t : Table) (u : Width) (ns : List Node) (s : State) (x : code.Width) (i j : ℕ) → s ≡ state_of t u ns → s.newest ≡ is.Matrix x i j → meant_width x ≡ u
-kept-width t u ns s x i j e h = by (view ns) (sym (ap (λ (s : State). s.newest) e) ∙ h)
-  where
-    by : {ns : List Node} {n : Newest} → View ns n → newest_kept u n ≡ is.Matrix x i j → meant_width x ≡ u
-    by sees_processor q = let z : ◌≡◌ {A = ℕ} 0 1 = cc in absurd (omega arith)
-    by sees_matrix q = let z : width_named u ≡ x = cc in rw (← z) (width_back u)
-    by sees_side q = let z : ◌≡◌ {A = ℕ} 0 1 = cc in absurd (omega arith)
-    by sees_window q = let z : ◌≡◌ {A = ℕ} 0 1 = cc in absurd (omega arith)
-    by sees_xor q = let z : ◌≡◌ {A = ℕ} 0 1 = cc in absurd (omega arith)
-    by sees_other q = let z : ◌≡◌ {A = ℕ} 0 1 = cc in absurd (omega arith)
+        wide : (b : Bool) (i j : ℕ) (y : Answer Counts) → by_counts (Ok (i, j)) ≡ y → pick (not b) (refused 4 p) y ≡ by_counts (pick b (Ok (i, j)) (Err (Record Misplaced)))
+        wide true i j y z = sym z
+        wide false i j y z = refl
+
+        by : (n : kept.Newest) → s.newest ≡ n → turn t u ns k bs p ≡ by_counts (counted n x)
+        by (is.Processor n) h = stands (λ v i j m. cc)
+        by (is.Matrix v i j) h =
+            set-turn i j ns v e h ∙ rw (all-bad 1 (body k) (tests i j) (omega arith), q, kept-width t u ns s v i j e h) (wide (eqb (octets w) (octets u)) i j _ refl)
+        by (is.Side n) h = stands (λ v i j m. cc)
+        by (is.Window m n) h = stands (λ v i j m. cc)
+        by (is.Xor n) h = stands (λ v i j m. cc)
+        by is.Other h = stands (λ v i j m. cc)

@@ -1,9 +1,10 @@
 -- Two answers that meet one contract are equal: what an answer stands for names the answer.
-use mathlib.Core.Path.{◌≡◌, refl, sym, ap, ◌∙◌}
+use mathlib.Core.Path.{◌≡◌, refl, sym, ◌∙◌}
 use Prim.Native.Nat.{ℕ}
 use mathlib.Core.Bool.{Bool}
 use mathlib.Core.Option.{Option, none, some}
 use lib.Dec.{eqb}
+use Rattle.std.specs.Prelude.{Result, Ok, Err}
 use Rattle.format.specs.Bytes.{pick, Answer, refused, given}
 use Rattle.format.specs.Table.{Table}
 use Rattle.format.specs.Form.{byte, pair}
@@ -14,16 +15,17 @@ use Rattle.header.specs.Header.{table_named}
 use Rattle.header.proofs.Unique.{table-back}
 use Rattle.recipe.specs.declared.Kind.{Kind}
 use Rattle.recipe.specs.declared.Kind.TheVariants.{Processor, Resource, Cache, Memory, Acpi, Pci, Rintc, Domain, Matrix, Initiator, Target, Cell, Side, Handle, Bridge, Window, WindowTarget, Xor, Map, WideMatrix, WideInitiator, WideTarget, WideCell}
-use Rattle.recipe.specs.declared.Named.{Named}
-use Rattle.recipe.specs.declared.Named.TheVariants as is
+use Rattle.recipe.specs.declared.Unnamed.{Unnamed}
+use Rattle.recipe.specs.declared.Unnamed.TheVariants as is
 use Rattle.recipe.specs.declared.Refusal.{Refusal}
 use Rattle.recipe.specs.declared.Refusal.TheVariants.{NoHead, BadKind, Retired, Cut, Misplaced, BadField, Forward, WrongKind, FullNode, TooLong, Incomplete}
-use Rattle.recipe.specs.declared.Checked.{Checked}
-use Rattle.recipe.specs.declared.Checked.TheVariants.{Good, Refused}
+use Rattle.recipe.specs.declared.Outline.{Outline}
+use Rattle.recipe.specs.declared.Refused.{Refused}
 use Rattle.recipe.specs.Kinds.{meant_kind, named, is_retired}
 use Rattle.recipe.specs.Answers.{number, shown}
 use Rattle.recipe.proofs.Kind.body_len.Reads as Kind-body-len
 use Rattle.recipe.proofs.Kind.refers.Reads as Kind-refers
+use Rattle.recipe.proofs.RefusalFromUnnamed.from.Reads as Refusal-from
 use Rattle.recipe.proofs.kind_of.Reads as kind-of
 use Rattle.recipe.proofs.check.Reads as check
 
@@ -79,17 +81,17 @@ kind-back WindowTarget = refl
 kind-back Xor = refl
 kind-back Map = refl
 
-abbrev named_in : Option format.Kind → Bool → Named
-named_in none b = pick b is.Retired is.Nothing
-named_in (some k) b = is.As (kind_named k)
+abbrev named_in : Option format.Kind → Bool → Result Kind Unnamed
+named_in none b = Err (pick b is.Retired is.Nothing)
+named_in (some k) b = Ok (kind_named k)
 
-named_back : (n : Named) → named_in (named n) (is_retired n) ≡ n
-named_back (is.As k) = ap is.As (kind-back k)
-named_back is.Retired = refl
-named_back is.Nothing = refl
+named_back : (n : Result Kind Unnamed) → named_in (named n) (is_retired n) ≡ n
+named_back (Ok k) = rw (kind-back k)
+named_back (Err is.Retired) = refl
+named_back (Err is.Nothing) = refl
 
 -- `kind_of`
-one-kind : (a b : Named) (k : Option format.Kind) (x : Bool) → named a ≡ k → is_retired a ≡ x → named b ≡ k → is_retired b ≡ x → a ≡ b
+one-kind : (a b : Result Kind Unnamed) (k : Option format.Kind) (x : Bool) → named a ≡ k → is_retired a ≡ x → named b ≡ k → is_retired b ≡ x → a ≡ b
 one-kind a b k x e f g h = sym (named_back a) ∙ rw (e, f, g, h) refl ∙ named_back b
 
 -- ---- answers
@@ -112,16 +114,16 @@ refusal-back FullNode = refl
 refusal-back TooLong = refl
 refusal-back Incomplete = refl
 
-abbrev checked_of : Answer (Table × ℕ) → Checked
-checked_of (refused n p) = Refused (refusal_of n) p
-checked_of (given (t, n)) = Good (table_named t) n
+abbrev checked_of : Answer (Table × ℕ) → Result Outline Refused
+checked_of (refused n p) = Err (record { refusal = refusal_of n; at = p })
+checked_of (given (t, n)) = Ok (record { table = table_named t; len = n })
 
-checked-back : (a : Checked) → checked_of (shown a) ≡ a
-checked-back (Good t n) = rw table-back
-checked-back (Refused f p) = rw refusal-back
+checked-back : (a : Result Outline Refused) → checked_of (shown a) ≡ a
+checked-back (Ok o) = rw table-back
+checked-back (Err r) = rw refusal-back
 
 -- `check`
-one-check : (a b : Checked) (o : Answer (Table × ℕ)) → shown a ≡ o → shown b ≡ o → a ≡ b
+one-check : (a b : Result Outline Refused) (o : Answer (Table × ℕ)) → shown a ≡ o → shown b ≡ o → a ≡ b
 one-check = sole-meant shown checked_of checked-back
 
 -- ---- the contracts
@@ -130,6 +132,7 @@ one-check = sole-meant shown checked_of checked-back
 pub record Unique : Type 0 where
   Kind-body-len : Fixes Kind-body-len.Learnt (λ k x p. x)
   Kind-refers : Fixes Kind-refers.Learnt (λ k x p. x)
+  Refusal-from : Fixes Refusal-from.Learnt (λ k x p. x)
   kind-of : Fixes kind-of.Learnt (λ k x p. x)
   check : Fixes check.Learnt (λ k x p. x)
 
@@ -138,6 +141,7 @@ unique =
     record {
       Kind-body-len = λ k a x y p q. sole;
       Kind-refers = λ k a x y p q. sole;
+      Refusal-from = λ k a x y p q. sole;
       kind-of = λ k a x y p q l m. one-kind x y _ _ l.0 l.1 m.0 m.1;
       check = λ k a x y p q. one-check x y _;
     }

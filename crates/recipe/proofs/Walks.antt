@@ -9,9 +9,10 @@ use native.Mathlib.Omega.{arith}
 use lib.ListN.{length, drop, set, drop_of_length-le, length-append, length-drop, length-set}
 use lib.Dec.{eqb, leb, ltb}
 use borrow.Author.Tests.{le-ltb, lt-ltb, eq-eqb, ne_eqb, eqb-true, eqb-false, leb-true}
+use Rattle.std.specs.Prelude.{Result, Ok, Err}
 use Rattle.format.specs.Bytes.{pick, at, Answer, refused, given, unless, value, part}
 use Rattle.format.specs.Layout.{width, fields_with, fields, refs_good}
-use Rattle.format.specs.Table.{Table, pptt, srat, hmat, cedt, front, limit, Head, head_of}
+use Rattle.format.specs.Table.{Table, pptt, srat, hmat, cedt, limit, Head, head_of}
 use Rattle.format.specs.Form.{Form, processor, cache, memory, acpi, pci, rintc, old_rintc, domain, matrix, side, bridge, window, xor, type_of, size, Width, byte, pair, octets}
 use Rattle.format.specs.Node.{Node, sizes}
 use Rattle.format.specs.Kind.{Kind, Processor, Resource, Cache, Memory, Acpi, Pci, Rintc, Domain, Matrix, Initiator, Target, Cell, Side, Handle, Bridge, Window, WindowTarget, Xor, Map, kind_number, kind_of, no_kind, body, part_in, width_behind}
@@ -23,7 +24,6 @@ use Rattle.laws.proofs.Fields.{fault-within}
 use Rattle.laws.proofs.Grows.{View, sees_processor, sees_matrix, sees_side, sees_window, sees_xor, sees_other, view, needless, passed}
 use Rattle.laws.proofs.Builds.{kind-home, front-short}
 use Rattle.laws.proofs.Calls.{cut_at}
-use Rattle.laws.proofs.Links.{few-nodes}
 use Rattle.header.specs.declared.Table.TheVariants.{Hmat}
 use Rattle.header.specs.Header.{meant, table_named}
 use Rattle.hmat.specs.declared.Width as code
@@ -32,11 +32,11 @@ use Rattle.hmat.specs.Settings.{in_counts, good_cell}
 use Rattle.hmat.proofs.Bodies.{cell-fields}
 use Rattle.recipe.specs.declared.Newest.TheVariants as is
 use Rattle.recipe.specs.declared.Refusal.{Refusal}
-use Rattle.recipe.specs.declared.State.{State}
-use Rattle.recipe.specs.declared.Step.{Step}
-use Rattle.recipe.specs.declared.Step.TheVariants.{Next, Refused, BadField}
+use Rattle.recipe.specs.declared.state.State.{State}
+use Rattle.recipe.specs.declared.Fault.{Fault}
+use Rattle.recipe.specs.declared.Fault.TheVariants.{Record, Field}
 use Rattle.recipe.specs.Answers.{number, outlined}
-use Rattle.recipe.specs.Machine.{newest_kept, lacks, state_of, Sound, Begun, ended_with, types_of, Bits, least_record, Roomy, Typed, Clear, noted, stepped, TurnsWith, whole, Stands}
+use Rattle.recipe.specs.Machine.{newest_kept, lacks, Counts, counts, state_of, Begun, ended_with, types_of, Bits, least_record, Roomy, Typed, Clear, noted, stepped, TurnsWith, whole, Stands}
 use Rattle.recipe.proofs.Types.{bits-parts, clear_next, typed-zero, typed_one}
 use Rattle.recipe.proofs.Refers.{length_types}
 use Rattle.recipe.proofs.Steps.{set-turn, kept-width}
@@ -235,13 +235,7 @@ module _ (r : List ℕ) (h : Head) where
   unfolding types_of sizes
   starts-so ws z = record { nodes = []; width = byte; is = refl; short = front-short h.table; few = λ t. omega arith; roomy = λ t. (z t).0; knows = record { typed = λ t. (z t).1; begun = tt }; same = refl }
 
-  module _ (q p : ℕ) (s : State) (ws : List ℕ) (w : Stands r h q p s ws) where
-    pub sound : Sound s
-    sound =
-        let l : front h.table + sizes w.nodes ≤ limit = w.short in
-        let f : length w.nodes ≤ sizes w.nodes = few-nodes w.nodes in
-        rw w.is (record { short = l; few = omega arith })
-
+  module _ (q p : ℕ) (s : Counts) (ws : List ℕ) (w : Stands r h q p s ws) where
     lacking-as : (o : Option Kind) → lacking (newest w.nodes) o ≡ pick (lacks s.newest o) 11 0
     lacking-as o = rw w.is (lacks-as w.width (view w.nodes) o)
 
@@ -293,29 +287,29 @@ module _ (r : List ℕ) (h : Head) where
           unfolding cut_as run vs n place
           called_at = w.same ∙ rw (cut_at h.table r p l, e, le-ltb _ _ c, lacking-as (some k), f)
 
-          module _ (x : Step) (d : TurnsWith ws k (drop (p + 1) r) s x) where
+          module _ (x : Result State Fault) (d : TurnsWith ws k (drop (p + 1) r) s x) where
             turned : stepped p x ≡ unless n place (given (state_of h.table (width_behind (part_in k) w.width) (added k vs w.nodes)))
             unfolding vs n place
             turned = d h.table w.width w.nodes p w.is (at r p) e w.knows
 
-            pub stops : (f : Refusal) → x ≡ Refused f → whole r h ≡ refused (number f) p
+            pub stops : (f : Refusal) → x ≡ Err (Record f) → whole r h ≡ refused (number f) p
             stops f i = called_at ∙ (refused-also n place (number f) p _ _ (rw i at turned)).0
 
-            pub stops_at : (by : ℕ) → x ≡ BadField by → whole r h ≡ refused 5 (p + by)
+            pub stops_at : (by : ℕ) → x ≡ Err (Field by) → whole r h ≡ refused 5 (p + by)
             stops_at by i = called_at ∙ (refused-also n place 5 (p + by) _ _ (rw i at turned)).0
 
             -- a bad field is one of the record
-            pub within : (by : ℕ) → x ≡ BadField by → by ≤ 1 + width (body k)
+            pub within : (by : ℕ) → x ≡ Err (Field by) → by ≤ 1 + width (body k)
             unfolding place
             within by i =
                 let j : p + by ≡ place = (refused-also {B = ℕ} n place 5 (p + by) _ (given 0) (rw i at turned)).1 in
                 omega (arith, j, fault-within n k (step k vs w.nodes).ranges)
 
-            pub goes : (s' : State) → x ≡ Next s' → Stands r h (pick (eqb s'.nodes s.nodes) q p) (p + 1 + width (body k)) s' (noted k s.nodes ws)
+            pub goes : (s' : State) → x ≡ Ok s' → Stands r h (pick (eqb s'.nodes s.nodes) q p) (p + 1 + width (body k)) (counts s') (noted k s.nodes ws)
             unfolding vs n place
             goes s' i =
                 let (z, g) = unless-given n place (given (state_of h.table (width_behind (part_in k) w.width) (added k vs w.nodes))) (sym (rw i at turned)) in
-                let is : s' ≡ state_of h.table (width_behind (part_in k) w.width) (added k vs w.nodes) = cc in
+                let is : counts s' ≡ state_of h.table (width_behind (part_in k) w.width) (added k vs w.nodes) = cc in
                 let y = passed h.table w.width w.nodes k vs z in
                 let small : sizes w.nodes ≤ limit = omega (arith, w.short) in
                 record {
@@ -330,7 +324,7 @@ module _ (r : List ℕ) (h : Head) where
                         typed = λ t. rw w.is (types-added r (at r p) k vs w.nodes ws (rw t at e) y.place small (omega (arith, w.few t)) (w.roomy t) (w.knows.typed t));
                         begun = begun-added k (drop (p + 1) r) w.nodes w.knows.begun;
                       };
-                  same = called_at ∙ rw (z, is, w.is);
+                  same = called_at ∙ rw (z, ap (λ (s : Counts). s.nodes) is, w.is);
                 }
 
         pub clear : k ≡ Cache → Clear ws s.nodes
@@ -352,7 +346,7 @@ noted-cell byte i ws = refl
 noted-cell pair i ws = refl
 
 -- a good cell leaves the state as it is
-module _ (r : List ℕ) (h : Head) (q p : ℕ) (s : State) (ws : List ℕ) (w : Stands r h q p s ws) (x : code.Width) (i t : ℕ) (own : s.table ≡ Hmat) (behind : s.newest ≡ is.Matrix x i t)
+module _ (r : List ℕ) (h : Head) (q p : ℕ) (s : State) (ws : List ℕ) (w : Stands r h q p (counts s) ws) (x : code.Width) (i t : ℕ) (own : s.table ≡ Hmat) (behind : s.newest ≡ is.Matrix x i t)
     (good : good_cell (meant_width x) r p i t ≡ true) where
   tests : (at r p ≡ kind_number (Cell (meant_width x))) × (in_counts (meant_width x) (drop (p + 1) r) i t ≡ true)
   tests =
@@ -361,22 +355,22 @@ module _ (r : List ℕ) (h : Head) (q p : ℕ) (s : State) (ws : List ℕ) (w : 
       (eqb-true (at r p) (kind_number (Cell v)) a, (both_true (leb (suc p + width (body (Cell v))) (length r)) _ y).1)
 
   named : kind_of h.table (at r p) ≡ some (Cell (meant_width x))
-  named = let m : meant s.table ≡ h.table = rw w.is (meant-named h.table) in rw (← m, own, tests.0) (cell-kind (meant_width x))
+  named = let m : meant s.table ≡ h.table = ap (λ (s : Counts). meant s.table) w.is ∙ meant-named h.table in rw (← m, own, tests.0) (cell-kind (meant_width x))
 
-  turns : TurnsWith ws (Cell (meant_width x)) (drop (p + 1) r) s (Next s)
+  turns : TurnsWith ws (Cell (meant_width x)) (drop (p + 1) r) (counts s) (Ok s)
   unfolding body step refs_good
   turns b u ns m e k z y =
       let v = meant_width x in
       let bs = drop (p + 1) r in
       let (c, d) = both_true (ltb (value (part bs 0 (octets v))) i) _ tests.1 in
-      sym (set-turn b u s m (drop (p + 1) r) v i t (Cell v) refl _ _ _ (sound r h q p s ws w) (λ ms. refl) (λ ok vs. refl) ns x e behind
-      ∙ rw (← kept-width b u ns s x i t e behind, eq-eqb (octets v) (octets v) refl, cell-fields v bs, c, d))
+      sym (set-turn b u (counts s) m (drop (p + 1) r) v (Cell v) refl _ _ _ s.short (λ ms. refl) (λ ok vs. refl) i t ns x e behind
+      ∙ rw (← kept-width b u ns (counts s) x i t e behind, eq-eqb (octets v) (octets v) refl, cell-fields v bs, c, d))
 
-  pub cell-passed : Stands r h q (p + 1 + width (body (Cell (meant_width x)))) s ws
+  pub cell-passed : Stands r h q (p + 1 + width (body (Cell (meant_width x)))) (counts s) ws
   cell-passed =
       let v = meant_width x in
       let l : suc p + width (body (Cell v)) ≤ length r = cell-fits v r p i t good in
-      rw (eq-eqb s.nodes s.nodes refl, noted-cell v s.nodes ws) at (goes r h q p s ws w (omega arith) (Cell v) named (rw behind refl) (rw length-drop (omega arith)) (Next s) turns s refl)
+      rw (eq-eqb s.nodes s.nodes refl, noted-cell v s.nodes ws) at (goes r h q p (counts s) ws w (omega arith) (Cell v) named (rw behind refl) (rw length-drop (omega arith)) (Ok s) turns s refl)
 
 -- ---- the head
 

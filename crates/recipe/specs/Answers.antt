@@ -1,5 +1,5 @@
 -- What the answers of the code are in the words of the format: a refusal's number and place, or the table and its length.
-use Rattle.std.specs.Prelude.{ℕ}
+use Rattle.std.specs.Prelude.{ℕ, Result, Ok, Err}
 use Rattle.format.specs.Bytes.{Answer, refused, given, and_then}
 use Rattle.format.specs.Table.{Table}
 use Rattle.format.specs.Build.{length_of}
@@ -7,8 +7,10 @@ use Rattle.format.specs.Recipe.{Meaning}
 use Rattle.header.specs.Header.{meant}
 use Rattle.recipe.specs.declared.Refusal.{Refusal}
 use Rattle.recipe.specs.declared.Refusal.TheVariants.{NoHead, BadKind, Retired, Cut, Misplaced, BadField, Forward, WrongKind, FullNode, TooLong, Incomplete}
-use Rattle.recipe.specs.declared.Checked.{Checked}
-use Rattle.recipe.specs.declared.Checked.TheVariants.{Good, Refused}
+use Rattle.recipe.specs.declared.Unnamed.{Unnamed}
+use Rattle.recipe.specs.declared.Unnamed.TheVariants as is
+use Rattle.recipe.specs.declared.Outline.{Outline}
+use Rattle.recipe.specs.declared.Refused.{Refused}
 
 abbrev pub number : Refusal → ℕ
 number NoHead = 1
@@ -23,9 +25,14 @@ number FullNode = 7
 number TooLong = 8
 number Incomplete = 11
 
-abbrev pub shown : Checked → Answer (Table × ℕ)
-shown (Good t n) = given (meant t, n)
-shown (Refused f p) = refused (number f) p
+-- for a byte that names no kind
+abbrev pub unnamed : Unnamed → Refusal
+unnamed is.Retired = Retired
+unnamed is.Nothing = BadKind
+
+abbrev pub shown : Result Outline Refused → Answer (Table × ℕ)
+shown (Ok o) = given (meant o.table, o.len)
+shown (Err r) = refused (number r.refusal) r.at
 
 -- the table that a recipe means, and its length
 abbrev pub outlined : Answer Meaning → Answer (Table × ℕ)

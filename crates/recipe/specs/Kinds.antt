@@ -1,6 +1,6 @@
 -- What the kinds of the code are in the words of the format, and what a record of each names.
-use Rattle.std.specs.Prelude.{ℕ, List, [], ◌∷◌, ◌++◌, Bool, true, false, drop}
-use Rattle.std.proofs.Math.Option.{Option, none, some}
+use Rattle.std.specs.Prelude.{ℕ, List, [], ◌∷◌, ◌++◌, Bool, true, false, Option, Some, None, Result, Ok, Err, drop}
+use Rattle.std.proofs.Math.Option as math
 use Rattle.format.specs.Bytes.{at}
 use Rattle.format.specs.Layout.{Item, fix, fld, two, to, or_none, arity, fields}
 use Rattle.format.specs.Form.{byte, pair}
@@ -10,8 +10,8 @@ use Rattle.recipe.specs.declared.Reference.{Reference}
 use Rattle.recipe.specs.declared.Reference.TheVariants as names
 use Rattle.recipe.specs.declared.Kind.{Kind}
 use Rattle.recipe.specs.declared.Kind.TheVariants.{Processor, Resource, Cache, Memory, Acpi, Pci, Rintc, Domain, Matrix, Initiator, Target, Cell, Side, Handle, Bridge, Window, WindowTarget, Xor, Map, WideMatrix, WideInitiator, WideTarget, WideCell}
-use Rattle.recipe.specs.declared.Named.{Named}
-use Rattle.recipe.specs.declared.Named.TheVariants.{As, Retired, Nothing}
+use Rattle.recipe.specs.declared.Unnamed.{Unnamed}
+use Rattle.recipe.specs.declared.Unnamed.TheVariants.{Retired, Nothing}
 
 abbrev pub meant_kind : Kind → format.Kind
 meant_kind Processor = format.Processor
@@ -38,48 +38,52 @@ meant_kind WideInitiator = format.Initiator pair
 meant_kind WideTarget = format.Target pair
 meant_kind WideCell = format.Cell pair
 
-abbrev pub named : Named → Option format.Kind
-named (As k) = some (meant_kind k)
-named Retired = none
-named Nothing = none
+abbrev pub named : Result Kind Unnamed → math.Option format.Kind
+named (Ok k) = math.some (meant_kind k)
+named (Err u) = math.none
+
+-- the kind that comes, if any
+abbrev pub coming : Option Kind → math.Option format.Kind
+coming (Some k) = math.some (meant_kind k)
+coming None = math.none
 
 -- it named a kind once
-abbrev pub is_retired : Named → Bool
-is_retired (As k) = false
-is_retired Retired = true
-is_retired Nothing = false
+abbrev pub is_retired : Result Kind Unnamed → Bool
+is_retired (Ok k) = false
+is_retired (Err Retired) = true
+is_retired (Err Nothing) = false
 
 -- what a record of a kind with the fields vs names: a processor its parent, a resource its cache, a cache its next level
-abbrev pub naming : format.Kind → List ℕ → Reference
-naming format.Processor vs = names.Processor (record { 0 = at vs 1 })
-naming format.Resource vs = names.Cache (record { 0 = at vs 0 })
-naming format.Cache vs = names.Cache (record { 0 = at vs 1 })
-naming format.Memory vs = names.Nothing
-naming format.Acpi vs = names.Nothing
-naming format.Pci vs = names.Nothing
-naming format.Rintc vs = names.Nothing
-naming format.Domain vs = names.Nothing
-naming (format.Matrix w) vs = names.Nothing
-naming (format.Initiator w) vs = names.Nothing
-naming (format.Target w) vs = names.Nothing
-naming (format.Cell w) vs = names.Nothing
-naming format.Side vs = names.Nothing
-naming format.Handle vs = names.Nothing
-naming format.Bridge vs = names.Nothing
-naming format.Window vs = names.Nothing
-naming format.WindowTarget vs = names.Nothing
-naming format.Xor vs = names.Nothing
-naming format.Map vs = names.Nothing
+abbrev pub naming : format.Kind → List ℕ → Option Reference
+naming format.Processor vs = Some (names.Processor (record { 0 = at vs 1 }))
+naming format.Resource vs = Some (names.Cache (record { 0 = at vs 0 }))
+naming format.Cache vs = Some (names.Cache (record { 0 = at vs 1 }))
+naming format.Memory vs = None
+naming format.Acpi vs = None
+naming format.Pci vs = None
+naming format.Rintc vs = None
+naming format.Domain vs = None
+naming (format.Matrix w) vs = None
+naming (format.Initiator w) vs = None
+naming (format.Target w) vs = None
+naming (format.Cell w) vs = None
+naming format.Side vs = None
+naming format.Handle vs = None
+naming format.Bridge vs = None
+naming format.Window vs = None
+naming format.WindowTarget vs = None
+naming format.Xor vs = None
+naming format.Map vs = None
 
 -- of a record whose body the bytes begin with
-abbrev pub reference_of : format.Kind → List ℕ → Reference
+abbrev pub reference_of : format.Kind → List ℕ → Option Reference
 reference_of k bs = naming k (fields (body k) bs)
 
 -- a reference as the type of what it names and the ordinal, in a list of one, or none
-abbrev pub listed : Reference → List (ℕ × ℕ)
-listed (names.Processor h) = (0, h.0) ∷ []
-listed (names.Cache h) = (1, h.0) ∷ []
-listed names.Nothing = []
+abbrev pub listed : Option Reference → List (ℕ × ℕ)
+listed (Some (names.Processor h)) = (0, h.0) ∷ []
+listed (Some (names.Cache h)) = (1, h.0) ∷ []
+listed None = []
 
 -- the references that an item holds, of the fields vs
 abbrev pub held_in : Item → List ℕ → List (ℕ × ℕ)
@@ -95,7 +99,7 @@ references [] vs = []
 references (i ∷ is) vs = held_in i vs ++ references is (drop (arity i) vs)
 
 -- the ordinal; 0 for none
-abbrev pub ordinal_in : Reference → ℕ
-ordinal_in (names.Processor h) = h.0
-ordinal_in (names.Cache h) = h.0
-ordinal_in names.Nothing = 0
+abbrev pub ordinal_in : Option Reference → ℕ
+ordinal_in (Some (names.Processor h)) = h.0
+ordinal_in (Some (names.Cache h)) = h.0
+ordinal_in None = 0

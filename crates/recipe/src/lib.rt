@@ -4,25 +4,28 @@
 ghost use Rattle.std.specs.Prelude.{◌≡◌, ℕ, ◌+◌, ◌≤◌, ◌<◌, List, [], true, length, drop, eqb};
 ghost use Rattle.format.specs.Bytes.{pick, has, part};
 ghost use Rattle.format.specs.Layout.{width};
-ghost use Rattle.format.specs.Table.{pptt, limit, Head, head_of};
-ghost use Rattle.format.specs.Kind.{kind_number, kind_of, retired, body};
+ghost use Rattle.format.specs.Table.{pptt, srat, hmat, cedt, limit, Head, head_of};
+ghost use Rattle.format.specs.Kind.{kind_of, retired, body};
 ghost use Rattle.format.specs.Recipe.{cut, run, meaning};
 ghost use Rattle.format.specs.Form.{byte, pair};
 ghost use Rattle.format.specs.Form as form;
 ghost use Rattle.format.specs.Kind as format;
 ghost use Rattle.header.specs.Header.{meant};
 ghost use Rattle.hmat.specs.Widths.{meant_width};
-ghost use Rattle.recipe.specs.Kinds.{meant_kind, named, is_retired, reference_of};
-ghost use Rattle.recipe.specs.Answers.{number, shown, outlined};
-ghost use Rattle.recipe.specs.Machine.{state_of, Sound, lacks, ended_with, grown, made_by, bit_at, Clear, noted, of_type, Roomy, Typed, Turns, TurnsBegun, TurnsWith, Stands};
+ghost use Rattle.recipe.specs.Kinds.{meant_kind, coming, named, is_retired, reference_of};
+ghost use Rattle.recipe.specs.Answers.{shown, outlined};
+ghost use Rattle.recipe.specs.Machine.{counts, lacks, bit_at, Clear, noted, of_type, Roomy, Typed, Turns, TurnsBegun, TurnsWith, Stands};
+
+mod state;
 
 use cedt::{CxlFixedMemory, CxlHostBridge, CxlTarget, XorInterleaveMath, XorMap};
-use header::{Coded, Table, TableHeader};
+use header::{Table, TableHeader};
 use hmat::{
     Cell, MemoryProximityDomain, MemorySideCache, SmbiosHandle, SystemLocality, Value, Width,
 };
 use pptt::{CacheHandle, CacheNode, ProcessorHandle, ProcessorNode, Resource};
 use srat::{GenericInitiator, MemoryAffinity, OldRintcAffinity, RintcAffinity};
+use state::State;
 
 // The length of a head's record.
 pub const HEAD_LEN: usize = 1 + TableHeader::BODY;
@@ -32,7 +35,7 @@ const CODE_AT: usize = 1 + TableHeader::CODE_AT;
 
 // ---- kinds
 
-#[derive(Clone, Copy)]
+#[derive(Clone, Copy, Debug, PartialEq, Eq)]
 pub enum Kind {
     Processor,
     Resource,
@@ -60,10 +63,9 @@ pub enum Kind {
     WideCell,
 }
 
-// What a kind byte stands for: a kind, one that is retired, or nothing.
-#[derive(Clone, Copy)]
-pub enum Named {
-    As(Kind),
+// Why a byte names no kind: the kind is retired, or there is none.
+#[derive(Clone, Copy, Debug, PartialEq, Eq)]
+pub enum Unnamed {
     Retired,
     Nothing,
 }
@@ -73,11 +75,11 @@ pub enum Named {
 pub enum Reference {
     Processor(ProcessorHandle),
     Cache(CacheHandle),
-    Nothing,
 }
 
 impl Kind {
     // The number of bytes that follow the kind byte.
+    #[tactic(auto, unfolding(format::specs::Layout::width, format::specs::Kind::body))]
     pub fn body_len(self) -> usize
         ensures { result ≡ width (body (meant_kind self)) }
     {
@@ -109,142 +111,98 @@ impl Kind {
     }
 
     // What a record of this kind names, whose body the bytes begin with.
-    pub fn refers(self, bytes: &[u8]) -> Reference
+    pub fn refers(self, bytes: &[u8]) -> Option<Reference>
         ensures { result ≡ reference_of (meant_kind self) bytes.now }
     {
         match self {
-            Kind::Processor => Reference::Processor(ProcessorNode::parent_in(bytes)),
-            Kind::Resource => {
-                let cache = Resource::from_body(bytes).cache;
-                Reference::Cache(cache)
-            }
-            Kind::Cache => Reference::Cache(CacheNode::next_level_in(bytes)),
-            Kind::Memory => Reference::Nothing,
-            Kind::Acpi => Reference::Nothing,
-            Kind::Pci => Reference::Nothing,
-            Kind::Rintc => Reference::Nothing,
-            Kind::Domain => Reference::Nothing,
-            Kind::Matrix => Reference::Nothing,
-            Kind::Initiator => Reference::Nothing,
-            Kind::Target => Reference::Nothing,
-            Kind::Cell => Reference::Nothing,
-            Kind::Side => Reference::Nothing,
-            Kind::Handle => Reference::Nothing,
-            Kind::Bridge => Reference::Nothing,
-            Kind::Window => Reference::Nothing,
-            Kind::WindowTarget => Reference::Nothing,
-            Kind::Xor => Reference::Nothing,
-            Kind::Map => Reference::Nothing,
-            Kind::WideMatrix => Reference::Nothing,
-            Kind::WideInitiator => Reference::Nothing,
-            Kind::WideTarget => Reference::Nothing,
-            Kind::WideCell => Reference::Nothing,
+            Kind::Processor => Some(Reference::Processor(ProcessorNode::parent_in(bytes))),
+            Kind::Resource => Some(Reference::Cache(Resource::from_body(bytes).cache)),
+            Kind::Cache => Some(Reference::Cache(CacheNode::next_level_in(bytes))),
+            _ => None,
         }
     }
 }
 
 #[tactic(auto, unfolding(format::specs::Kind::kind_of))]
-fn of_pptt(table: Table, byte: u8) -> Named
-    requires { (kind_number format.Processor ≤ byte) × (byte ≤ kind_number format.Cache) }
-    ensures result_value { named result ≡ kind_of (meant table) byte }
-    ensures result_value_2 { is_retired result ≡ has (retired (meant table)) byte }
+fn of_pptt(byte: u8) -> Result<Kind, Unnamed>
+    ensures result_value { named result ≡ kind_of pptt byte }
+    ensures result_value_2 { is_retired result ≡ has (retired pptt) byte }
 {
-    match table {
-        Table::Pptt => match byte {
-            ProcessorNode::KIND => Named::As(Kind::Processor),
-            Resource::KIND => Named::As(Kind::Resource),
-            _ => Named::As(Kind::Cache),
-        },
-        Table::Srat => Named::Nothing,
-        Table::Hmat => Named::Nothing,
-        Table::Cedt => Named::Nothing,
+    match byte {
+        ProcessorNode::KIND => Ok(Kind::Processor),
+        Resource::KIND => Ok(Kind::Resource),
+        CacheNode::KIND => Ok(Kind::Cache),
+        _ => Err(Unnamed::Nothing),
     }
 }
 
 #[tactic(auto, unfolding(format::specs::Kind::kind_of))]
-fn of_srat(table: Table, byte: u8) -> Named
-    requires { (kind_number format.Memory ≤ byte) × (byte ≤ kind_number format.Rintc) }
-    ensures result_value { named result ≡ kind_of (meant table) byte }
-    ensures result_value_2 { is_retired result ≡ has (retired (meant table)) byte }
+fn of_srat(byte: u8) -> Result<Kind, Unnamed>
+    ensures result_value { named result ≡ kind_of srat byte }
+    ensures result_value_2 { is_retired result ≡ has (retired srat) byte }
 {
-    match table {
-        Table::Pptt => Named::Nothing,
-        Table::Srat => match byte {
-            MemoryAffinity::KIND => Named::As(Kind::Memory),
-            GenericInitiator::ACPI_KIND => Named::As(Kind::Acpi),
-            GenericInitiator::PCI_KIND => Named::As(Kind::Pci),
-            OldRintcAffinity::KIND => Named::Retired,
-            _ => Named::As(Kind::Rintc),
-        },
-        Table::Hmat => Named::Nothing,
-        Table::Cedt => Named::Nothing,
+    match byte {
+        MemoryAffinity::KIND => Ok(Kind::Memory),
+        GenericInitiator::ACPI_KIND => Ok(Kind::Acpi),
+        GenericInitiator::PCI_KIND => Ok(Kind::Pci),
+        OldRintcAffinity::KIND => Err(Unnamed::Retired),
+        RintcAffinity::KIND => Ok(Kind::Rintc),
+        _ => Err(Unnamed::Nothing),
     }
 }
 
 #[tactic(auto, unfolding(format::specs::Kind::kind_of))]
-fn of_hmat(table: Table, byte: u8) -> Named
-    requires { (kind_number format.Domain ≤ byte) × (byte ≤ kind_number (format.Cell pair)) }
-    ensures result_value { named result ≡ kind_of (meant table) byte }
-    ensures result_value_2 { is_retired result ≡ has (retired (meant table)) byte }
+fn of_hmat(byte: u8) -> Result<Kind, Unnamed>
+    ensures result_value { named result ≡ kind_of hmat byte }
+    ensures result_value_2 { is_retired result ≡ has (retired hmat) byte }
 {
-    match table {
-        Table::Pptt => Named::Nothing,
-        Table::Srat => Named::Nothing,
-        Table::Hmat => match byte {
-            MemoryProximityDomain::KIND => Named::As(Kind::Domain),
-            SystemLocality::KIND => Named::As(Kind::Matrix),
-            Value::INITIATOR_KIND => Named::As(Kind::Initiator),
-            Value::TARGET_KIND => Named::As(Kind::Target),
-            Cell::KIND => Named::As(Kind::Cell),
-            MemorySideCache::KIND => Named::As(Kind::Side),
-            SmbiosHandle::KIND => Named::As(Kind::Handle),
-            SystemLocality::WIDE_KIND => Named::As(Kind::WideMatrix),
-            Value::WIDE_INITIATOR_KIND => Named::As(Kind::WideInitiator),
-            Value::WIDE_TARGET_KIND => Named::As(Kind::WideTarget),
-            _ => Named::As(Kind::WideCell),
-        },
-        Table::Cedt => Named::Nothing,
+    match byte {
+        MemoryProximityDomain::KIND => Ok(Kind::Domain),
+        SystemLocality::KIND => Ok(Kind::Matrix),
+        Value::INITIATOR_KIND => Ok(Kind::Initiator),
+        Value::TARGET_KIND => Ok(Kind::Target),
+        Cell::KIND => Ok(Kind::Cell),
+        MemorySideCache::KIND => Ok(Kind::Side),
+        SmbiosHandle::KIND => Ok(Kind::Handle),
+        SystemLocality::WIDE_KIND => Ok(Kind::WideMatrix),
+        Value::WIDE_INITIATOR_KIND => Ok(Kind::WideInitiator),
+        Value::WIDE_TARGET_KIND => Ok(Kind::WideTarget),
+        Cell::WIDE_KIND => Ok(Kind::WideCell),
+        _ => Err(Unnamed::Nothing),
     }
 }
 
 #[tactic(auto, unfolding(format::specs::Kind::kind_of))]
-fn of_cedt(table: Table, byte: u8) -> Named
-    requires { (kind_number format.Bridge ≤ byte) × (byte ≤ kind_number format.Map) }
-    ensures result_value { named result ≡ kind_of (meant table) byte }
-    ensures result_value_2 { is_retired result ≡ has (retired (meant table)) byte }
+fn of_cedt(byte: u8) -> Result<Kind, Unnamed>
+    ensures result_value { named result ≡ kind_of cedt byte }
+    ensures result_value_2 { is_retired result ≡ has (retired cedt) byte }
 {
-    match table {
-        Table::Pptt => Named::Nothing,
-        Table::Srat => Named::Nothing,
-        Table::Hmat => Named::Nothing,
-        Table::Cedt => match byte {
-            CxlHostBridge::KIND => Named::As(Kind::Bridge),
-            CxlFixedMemory::KIND => Named::As(Kind::Window),
-            CxlTarget::KIND => Named::As(Kind::WindowTarget),
-            XorInterleaveMath::KIND => Named::As(Kind::Xor),
-            _ => Named::As(Kind::Map),
-        },
+    match byte {
+        CxlHostBridge::KIND => Ok(Kind::Bridge),
+        CxlFixedMemory::KIND => Ok(Kind::Window),
+        CxlTarget::KIND => Ok(Kind::WindowTarget),
+        XorInterleaveMath::KIND => Ok(Kind::Xor),
+        XorMap::KIND => Ok(Kind::Map),
+        _ => Err(Unnamed::Nothing),
     }
 }
 
 // The kind that a byte names in a recipe of this table.
-#[tactic(auto, unfolding(format::specs::Kind::kind_of))]
-pub fn kind_of(table: Table, byte: u8) -> Named
+pub fn kind_of(table: Table, byte: u8) -> Result<Kind, Unnamed>
     ensures result_value { named result ≡ kind_of (meant table) byte }
     ensures result_value_2 { is_retired result ≡ has (retired (meant table)) byte }
 {
-    match byte {
-        ProcessorNode::KIND..=CacheNode::KIND => of_pptt(table, byte),
-        MemoryAffinity::KIND..=RintcAffinity::KIND => of_srat(table, byte),
-        MemoryProximityDomain::KIND..=Cell::WIDE_KIND => of_hmat(table, byte),
-        CxlHostBridge::KIND..=XorMap::KIND => of_cedt(table, byte),
-        _ => Named::Nothing,
+    match table {
+        Table::Pptt => of_pptt(byte),
+        Table::Srat => of_srat(byte),
+        Table::Hmat => of_hmat(byte),
+        Table::Cedt => of_cedt(byte),
     }
 }
 
 // ---- answers
 
-#[derive(Clone, Copy)]
+#[derive(Clone, Copy, Debug, PartialEq, Eq)]
 pub enum Refusal {
     NoHead,
     BadKind,
@@ -259,23 +217,40 @@ pub enum Refusal {
     Incomplete,
 }
 
-impl Named {
-    // Why a byte names no kind.
-    fn refusal(self) -> Refusal
-        ensures { number result ≡ pick (is_retired self) 12 2 }
-    {
-        if let Named::Retired = self {
-            return Refusal::Retired;
+impl From<Unnamed> for Refusal {
+    ghost use Rattle.recipe.specs.Answers.{unnamed};
+
+    ghost from_gives = { λ u r. r ≡ unnamed u };
+
+    fn from(unnamed: Unnamed) -> Refusal {
+        match unnamed {
+            Unnamed::Retired => Refusal::Retired,
+            Unnamed::Nothing => Refusal::BadKind,
         }
-        Refusal::BadKind
     }
 }
 
-// The table that a recipe gives and its length, or a refusal and its place.
-#[derive(Clone, Copy)]
-pub enum Checked {
-    Good(Table, usize),
-    Refused(Refusal, usize),
+impl Refusal {
+    // Of what stands at a place of the recipe.
+    fn at(self, at: usize) -> Refused
+        ensures { result ≡ record { refusal = self; at = at } }
+    {
+        Refused { refusal: self, at }
+    }
+}
+
+// What a good recipe gives: a table, so many bytes long.
+#[derive(Clone, Copy, PartialEq, Eq)]
+pub struct Outline {
+    pub table: Table,
+    pub len: usize,
+}
+
+// Why a recipe is refused, and where.
+#[derive(Clone, Copy, Debug, PartialEq, Eq)]
+pub struct Refused {
+    pub refusal: Refusal,
+    pub at: usize,
 }
 
 // ---- the state
@@ -295,8 +270,8 @@ enum Newest {
 
 impl Newest {
     // It lacks entries, and what comes is none.
-    fn lacks(self, next: Named) -> bool
-        ensures { result ≡ lacks self (named next) }
+    fn lacks(self, next: Option<Kind>) -> bool
+        ensures { result ≡ lacks self (coming next) }
     {
         let Newest::Window(needs, has) = self else {
             return false;
@@ -304,96 +279,15 @@ impl Newest {
         if needs <= has {
             return false;
         }
-        let Named::As(kind) = next else {
-            return true;
-        };
-        let Kind::WindowTarget = kind else {
-            return true;
-        };
-        false
+        next != Some(Kind::WindowTarget)
     }
 }
 
-// What the pass keeps of the nodes so far.
+// Why a record is refused: at its kind byte, or for a bad field so many bytes behind that.
 #[derive(Clone, Copy)]
-struct State {
-    table: Table,
-    nodes: usize,
-    length: usize,
-    newest: Newest,
-}
-
-// What a record does: the state with it, a refusal at its kind byte, or a bad field so many bytes behind that.
-#[derive(Clone, Copy)]
-enum Step {
-    Next(State),
-    Refused(Refusal),
-    BadField(usize),
-}
-
-impl State {
-    // Of no nodes.
-    fn new(table: Table) -> Self
-        ensures { (w : form.Width) → result ≡ state_of (meant table) w [] }
-    {
-        Self {
-            table,
-            nodes: 0,
-            length: table.front(),
-            newest: Newest::Other,
-        }
-    }
-
-    // With so many nodes, and a table that is longer by some bytes.
-    fn grown(self, nodes: usize, by: usize, newest: Newest) -> Step
-        requires { (self.length ≤ limit) × (by ≤ limit) }
-        ensures { result ≡ grown self nodes by newest }
-    {
-        let length = self.length + by;
-        if header::LIMIT < length {
-            return Step::Refused(Refusal::TooLong);
-        }
-        let table = self.table;
-        Step::Next(State {
-            table,
-            nodes,
-            length,
-            newest,
-        })
-    }
-
-    // With one node more, whose first bad field is given (0 for none), and whose record has so many bytes.
-    fn made(self, bad: usize, len: usize, newest: Newest) -> Step
-        requires { Sound self × (len ≤ limit) }
-        ensures { result ≡ made_by self bad len newest }
-    {
-        if bad != 0 {
-            return Step::BadField(bad);
-        }
-        self.grown(self.nodes + 1, len, newest)
-    }
-
-    // The place of the newest node's record: at, if there are more nodes than before, else where it was.
-    fn newer(self, before: usize, at: usize, made: usize) -> usize
-        ensures { result ≡ pick (eqb self.nodes before) made at }
-    {
-        if self.nodes == before {
-            return made;
-        }
-        at
-    }
-
-    // The answer at the end of a recipe; made: the place of the newest node's record.
-    fn ended(self, made: usize) -> Checked
-        ensures { shown result ≡ ended_with self made }
-    {
-        let newest = self.newest;
-        if newest.lacks(Named::Nothing) {
-            return Checked::Refused(Refusal::Incomplete, made);
-        }
-        let table = self.table;
-        Checked::Good(table, self.length)
-    }
+enum Fault {
+    Record(Refusal),
+    Field(usize),
 }
 
 // ---- references
@@ -422,112 +316,92 @@ fn note_type(types: &mut [u64], kind: Kind, i: usize)
     requires { meant_kind kind ≡ format.Cache → Clear types.old i }
     ensures { types.new ≡ noted (meant_kind kind) i types.old }
 {
-    let Kind::Cache = kind else {
+    if kind != Kind::Cache {
         return;
-    };
+    }
     let j = i / 64;
     types[j] = types[j] + (1 << (i % 64));
 }
 
-// A handle is none, or names a processor.
-fn is_processor_or_none(types: &[u64], h: ProcessorHandle) -> bool
-    ensures { result ≡ pick (eqb h.0 0) true (of_type types.now h.0 0) }
+// An ordinal, which is not none, names a node of this type.
+fn names(types: &[u64], ordinal: u32, ty: u8) -> bool
+    requires { 0 < ordinal }
+    ensures { result ≡ of_type types.now ordinal ty }
 {
-    if h.0 == 0 {
-        return true;
-    }
-    type_at(types, h.0 as usize - 1) == ProcessorNode::TYPE
+    type_at(types, ordinal as usize - 1) == ty
 }
 
-// A handle, which is not none, names a cache.
-fn is_cache(types: &[u64], h: CacheHandle) -> bool
-    requires { 0 < h.0 }
-    ensures { result ≡ of_type types.now h.0 1 }
+fn names_or_none(types: &[u64], ordinal: u32, ty: u8) -> bool
+    ensures { result ≡ pick (eqb ordinal 0) true (of_type types.now ordinal ty) }
 {
-    type_at(types, h.0 as usize - 1) == CacheNode::TYPE
-}
-
-fn is_cache_or_none(types: &[u64], h: CacheHandle) -> bool
-    ensures { result ≡ pick (eqb h.0 0) true (of_type types.now h.0 1) }
-{
-    if h.0 == 0 {
-        return true;
-    }
-    is_cache(types, h)
+    ordinal == 0 || names(types, ordinal, ty)
 }
 
 // ---- PPTT
 
-fn processor(types: &[u64], bytes: &[u8], st: State) -> Step
-    requires { Sound st }
-    ensures { TurnsWith types.now format.Processor bytes.now st result }
+fn processor(types: &[u64], bytes: &[u8], st: State) -> Result<State, Fault>
+    ensures { TurnsWith types.now format.Processor bytes.now (counts st) result }
 {
     let parent = ProcessorNode::parent_in(bytes);
     let own = st.nodes + 1;
     if own <= parent.0 as usize {
-        return Step::Refused(Refusal::Forward);
+        return Err(Fault::Record(Refusal::Forward));
     }
-    if !is_processor_or_none(types, parent) {
-        return Step::Refused(Refusal::WrongKind);
+    if !names_or_none(types, parent.0, ProcessorNode::TYPE) {
+        return Err(Fault::Record(Refusal::WrongKind));
     }
     st.grown(own, ProcessorNode::LEN, Newest::Processor(0))
 }
 
-fn resource(types: &[u64], bytes: &[u8], st: State) -> Step
-    requires { Sound st }
-    ensures { TurnsWith types.now format.Resource bytes.now st result }
+fn resource(types: &[u64], bytes: &[u8], st: State) -> Result<State, Fault>
+    ensures { TurnsWith types.now format.Resource bytes.now (counts st) result }
 {
-    let newest = st.newest;
-    let Newest::Processor(n) = newest else {
-        return Step::Refused(Refusal::Misplaced);
+    let Newest::Processor(n) = st.newest else {
+        return Err(Fault::Record(Refusal::Misplaced));
     };
     let own = st.nodes;
     let cache = Resource::from_body(bytes).cache;
     if cache.0 == 0 {
-        return Step::Refused(Refusal::Forward);
+        return Err(Fault::Record(Refusal::Forward));
     }
     if own <= cache.0 as usize {
-        return Step::Refused(Refusal::Forward);
+        return Err(Fault::Record(Refusal::Forward));
     }
-    if !is_cache(types, cache) {
-        return Step::Refused(Refusal::WrongKind);
+    if !names(types, cache.0, CacheNode::TYPE) {
+        return Err(Fault::Record(Refusal::WrongKind));
     }
     if ProcessorNode::is_full(n) {
-        return Step::Refused(Refusal::FullNode);
+        return Err(Fault::Record(Refusal::FullNode));
     }
     st.grown(own, Resource::LEN, Newest::Processor(n + 1))
 }
 
-fn cache(types: &[u64], bytes: &[u8], st: State) -> Step
-    requires { Sound st }
-    ensures { TurnsWith types.now format.Cache bytes.now st result }
+fn cache(types: &[u64], bytes: &[u8], st: State) -> Result<State, Fault>
+    ensures { TurnsWith types.now format.Cache bytes.now (counts st) result }
 {
     let node = CacheNode::from_body(bytes);
-    let bad = node.bad_field();
-    if bad != 0 {
-        return Step::BadField(bad);
+    if let Some(by) = node.bad_field() {
+        return Err(Fault::Field(by));
     }
     let next_level = node.next_level;
     let own = st.nodes + 1;
     if own <= next_level.0 as usize {
-        return Step::Refused(Refusal::Forward);
+        return Err(Fault::Record(Refusal::Forward));
     }
-    if !is_cache_or_none(types, next_level) {
-        return Step::Refused(Refusal::WrongKind);
+    if !names_or_none(types, next_level.0, CacheNode::TYPE) {
+        return Err(Fault::Record(Refusal::WrongKind));
     }
     st.grown(own, CacheNode::LEN, Newest::Other)
 }
 
 // ---- HMAT
 
-fn matrix(width: Width, bytes: &[u8], st: State) -> Step
-    requires { Sound st }
-    ensures { Turns (format.Matrix (meant_width width)) bytes.now st result }
+fn matrix(width: Width, bytes: &[u8], st: State) -> Result<State, Fault>
+    ensures { Turns (format.Matrix (meant_width width)) bytes.now (counts st) result }
 {
     let node = SystemLocality::from_body(width, bytes);
-    let bad = node.bad_field();
-    if bad != 0 {
-        return Step::BadField(bad);
+    if let Some(by) = node.bad_field() {
+        return Err(Fault::Field(by));
     }
     st.grown(
         st.nodes + 1,
@@ -536,70 +410,45 @@ fn matrix(width: Width, bytes: &[u8], st: State) -> Step
     )
 }
 
-fn initiator(width: Width, bytes: &[u8], st: State) -> Step
-    requires { Sound st }
-    ensures { Turns (format.Initiator (meant_width width)) bytes.now st result }
+// An initiator's value, and a target's beside it: one function of both would take the side, and match on it for the count and in its contract.
+fn initiator(width: Width, bytes: &[u8], st: State) -> Result<State, Fault>
+    ensures { Turns (format.Initiator (meant_width width)) bytes.now (counts st) result }
 {
-    let newest = st.newest;
-    let Newest::Matrix(counted, i, _) = newest else {
-        return Step::Refused(Refusal::Misplaced);
-    };
-    if !width.is(counted) {
-        return Step::Refused(Refusal::Misplaced);
+    let (initiators, _) = st.counted(width)?;
+    if let Some(by) = Value::from_body(width, bytes).bad_field(initiators) {
+        return Err(Fault::Field(by));
     }
-    let bad = Value::from_body(width, bytes).bad_field(i);
-    if bad != 0 {
-        return Step::BadField(bad);
-    }
-    Step::Next(st)
+    Ok(st)
 }
 
-fn target(width: Width, bytes: &[u8], st: State) -> Step
-    requires { Sound st }
-    ensures { Turns (format.Target (meant_width width)) bytes.now st result }
+fn target(width: Width, bytes: &[u8], st: State) -> Result<State, Fault>
+    ensures { Turns (format.Target (meant_width width)) bytes.now (counts st) result }
 {
-    let newest = st.newest;
-    let Newest::Matrix(counted, _, t) = newest else {
-        return Step::Refused(Refusal::Misplaced);
-    };
-    if !width.is(counted) {
-        return Step::Refused(Refusal::Misplaced);
+    let (_, targets) = st.counted(width)?;
+    if let Some(by) = Value::from_body(width, bytes).bad_field(targets) {
+        return Err(Fault::Field(by));
     }
-    let bad = Value::from_body(width, bytes).bad_field(t);
-    if bad != 0 {
-        return Step::BadField(bad);
-    }
-    Step::Next(st)
+    Ok(st)
 }
 
-fn cell(width: Width, bytes: &[u8], st: State) -> Step
-    requires { Sound st }
-    ensures { Turns (format.Cell (meant_width width)) bytes.now st result }
+fn cell(width: Width, bytes: &[u8], st: State) -> Result<State, Fault>
+    ensures { Turns (format.Cell (meant_width width)) bytes.now (counts st) result }
 {
-    let newest = st.newest;
-    let Newest::Matrix(counted, i, t) = newest else {
-        return Step::Refused(Refusal::Misplaced);
-    };
-    if !width.is(counted) {
-        return Step::Refused(Refusal::Misplaced);
+    let (initiators, targets) = st.counted(width)?;
+    if let Some(by) = Cell::from_body(width, bytes).bad_field(width, initiators, targets) {
+        return Err(Fault::Field(by));
     }
-    let bad = Cell::from_body(width, bytes).bad_field(width, i, t);
-    if bad != 0 {
-        return Step::BadField(bad);
-    }
-    Step::Next(st)
+    Ok(st)
 }
 
-fn handle(st: State) -> Step
-    requires { Sound st }
-    ensures { (bs : List ℕ) → Turns format.Handle bs st result }
+fn handle(st: State) -> Result<State, Fault>
+    ensures { (bs : List ℕ) → Turns format.Handle bs (counts st) result }
 {
-    let newest = st.newest;
-    let Newest::Side(n) = newest else {
-        return Step::Refused(Refusal::Misplaced);
+    let Newest::Side(n) = st.newest else {
+        return Err(Fault::Record(Refusal::Misplaced));
     };
     if MemorySideCache::is_full(n) {
-        return Step::Refused(Refusal::FullNode);
+        return Err(Fault::Record(Refusal::FullNode));
     }
     st.grown(st.nodes, SmbiosHandle::LEN, Newest::Side(n + 1))
 }
@@ -607,9 +456,8 @@ fn handle(st: State) -> Step
 // ---- CEDT
 
 // A window counts whole, its targets included.
-fn window(bytes: &[u8], st: State) -> Step
-    requires { Sound st }
-    ensures { Turns format.Window bytes.now st result }
+fn window(bytes: &[u8], st: State) -> Result<State, Fault>
+    ensures { Turns format.Window bytes.now (counts st) result }
 {
     let node = CxlFixedMemory::from_body(bytes);
     st.made(
@@ -619,30 +467,26 @@ fn window(bytes: &[u8], st: State) -> Step
     )
 }
 
-fn window_target(st: State) -> Step
-    requires { Sound st }
-    ensures { (bs : List ℕ) → TurnsBegun format.WindowTarget bs st result }
+fn window_target(st: State) -> Result<State, Fault>
+    ensures { (bs : List ℕ) → TurnsBegun format.WindowTarget bs (counts st) result }
 {
-    let newest = st.newest;
-    let Newest::Window(needs, has) = newest else {
-        return Step::Refused(Refusal::Misplaced);
+    let Newest::Window(needs, has) = st.newest else {
+        return Err(Fault::Record(Refusal::Misplaced));
     };
     if needs <= has {
-        return Step::Refused(Refusal::FullNode);
+        return Err(Fault::Record(Refusal::FullNode));
     }
     st.grown(st.nodes, 0, Newest::Window(needs, has + 1))
 }
 
-fn map(st: State) -> Step
-    requires { Sound st }
-    ensures { (bs : List ℕ) → Turns format.Map bs st result }
+fn map(st: State) -> Result<State, Fault>
+    ensures { (bs : List ℕ) → Turns format.Map bs (counts st) result }
 {
-    let newest = st.newest;
-    let Newest::Xor(n) = newest else {
-        return Step::Refused(Refusal::Misplaced);
+    let Newest::Xor(n) = st.newest else {
+        return Err(Fault::Record(Refusal::Misplaced));
     };
     if XorInterleaveMath::is_full(n) {
-        return Step::Refused(Refusal::FullNode);
+        return Err(Fault::Record(Refusal::FullNode));
     }
     st.grown(st.nodes, XorMap::LEN, Newest::Xor(n + 1))
 }
@@ -650,9 +494,9 @@ fn map(st: State) -> Step
 // ---- the pass
 
 // One record, whose body the bytes begin with: each body is a window of its own length.
-fn judge(types: &[u64], kind: Kind, bytes: &[u8], st: State) -> Step
-    requires { Sound st × (width (body (meant_kind kind)) ≤ length bytes.now) }
-    ensures { TurnsWith types.now (meant_kind kind) bytes.now st result }
+fn judge(types: &[u64], kind: Kind, bytes: &[u8], st: State) -> Result<State, Fault>
+    requires { width (body (meant_kind kind)) ≤ length bytes.now }
+    ensures { TurnsWith types.now (meant_kind kind) bytes.now (counts st) result }
 {
     match kind {
         Kind::Processor => processor(types, &bytes[..ProcessorNode::BODY], st),
@@ -678,7 +522,7 @@ fn judge(types: &[u64], kind: Kind, bytes: &[u8], st: State) -> Step
             RintcAffinity::LEN,
             Newest::Other,
         ),
-        Kind::Domain => st.made(0, MemoryProximityDomain::LEN, Newest::Other),
+        Kind::Domain => st.made(None, MemoryProximityDomain::LEN, Newest::Other),
         Kind::Matrix => matrix(Width::Byte, &bytes[..SystemLocality::BODY], st),
         Kind::Initiator => initiator(Width::Byte, &bytes[..Value::BODY], st),
         Kind::Target => target(Width::Byte, &bytes[..Value::BODY], st),
@@ -711,14 +555,12 @@ fn judge(types: &[u64], kind: Kind, bytes: &[u8], st: State) -> Step
 
 // The place behind the good cells that follow: they leave the state as it is.
 fn past_cells(recipe: &[u8], from: usize, st: State) -> usize
-    ensures { (from ≤ result) × ((h : Head) (made : ℕ) (ws : List ℕ) → Stands recipe.now h made from st ws → Stands recipe.now h made result st ws) }
+    ensures { (from ≤ result) × ((h : Head) (made : ℕ) (ws : List ℕ) → Stands recipe.now h made from (counts st) ws → Stands recipe.now h made result (counts st) ws) }
 {
-    let table = st.table;
-    let Table::Hmat = table else {
+    if st.table != Table::Hmat {
         return from;
-    };
-    let newest = st.newest;
-    let Newest::Matrix(width, i, t) = newest else {
+    }
+    let Newest::Matrix(width, i, t) = st.newest else {
         return from;
     };
     let len = 1 + Cell::body_len(width);
@@ -730,7 +572,7 @@ fn past_cells(recipe: &[u8], from: usize, st: State) -> usize
 }
 
 // The records behind the head; types: a bit for each node of a PPTT, all 0.
-fn walk(recipe: &[u8], table: Table, types: &mut [u64]) -> Checked
+fn walk(recipe: &[u8], table: Table, types: &mut [u64]) -> Result<Outline, Refused>
     requires { meant table ≡ pptt → Roomy types.old recipe.now × Typed types.old [] }
     ensures { shown result ≡ outlined (run (head_of (meant table) (part recipe.now 2 26)) 0 byte [] (cut (meant table) 0 28 (drop 28 recipe.now))) }
 {
@@ -739,40 +581,35 @@ fn walk(recipe: &[u8], table: Table, types: &mut [u64]) -> Checked
     let mut st = State::new(table);
     while at < recipe.len() {
         let named = kind_of(table, recipe[at]);
-        let newest = st.newest;
-        if newest.lacks(named) {
-            return Checked::Refused(Refusal::Incomplete, made);
+        if st.newest.lacks(named.ok()) {
+            return Err(Refusal::Incomplete.at(made));
         }
-        let Named::As(kind) = named else {
-            return Checked::Refused(named.refusal(), at);
+        let kind = match named {
+            Ok(kind) => kind,
+            Err(unnamed) => return Err(Refusal::from(unnamed).at(at)),
         };
         let n = kind.body_len();
         let end = at + 1 + n;
         let bytes = field::rest(recipe, at + 1);
         if bytes.len() < n {
-            return Checked::Refused(Refusal::Cut, at);
+            return Err(Refusal::Cut.at(at));
         }
-        match judge(types, kind, bytes, st) {
-            Step::Next(more) => {
-                note_type(types, kind, st.nodes);
-                made = more.newer(st.nodes, at, made);
-                st = more;
-                at = past_cells(recipe, end, more);
-            }
-            Step::Refused(refusal) => {
-                return Checked::Refused(refusal, at);
-            }
-            Step::BadField(by) => {
-                return Checked::Refused(Refusal::BadField, at + by);
-            }
-        }
+        let next = match judge(types, kind, bytes, st) {
+            Ok(next) => next,
+            Err(Fault::Record(refusal)) => return Err(refusal.at(at)),
+            Err(Fault::Field(by)) => return Err(Refusal::BadField.at(at + by)),
+        };
+        note_type(types, kind, st.nodes);
+        made = next.newer(st.nodes, at, made);
+        st = next;
+        at = past_cells(recipe, end, next);
     }
     st.ended(made)
 }
 
 // The same of a long recipe, of a PPTT, with words for as many nodes as a table can have. LLVM does not inline a function that calls itself,
 // so that no other recipe pays for this room; again is 0, since no slice has usize::MAX bytes, but LLVM does not know it.
-fn walk_long(recipe: &[u8], table: Table, again: usize) -> Checked
+fn walk_long(recipe: &[u8], table: Table, again: usize) -> Result<Outline, Refused>
     ensures { shown result ≡ outlined (run (head_of (meant table) (part recipe.now 2 26)) 0 byte [] (cut (meant table) 0 28 (drop 28 recipe.now))) }
 {
     if 0 < again {
@@ -782,21 +619,21 @@ fn walk_long(recipe: &[u8], table: Table, again: usize) -> Checked
 }
 
 // Judges a whole recipe.
-pub fn check(recipe: &[u8]) -> Checked
+pub fn check(recipe: &[u8]) -> Result<Outline, Refused>
     ensures { shown result ≡ outlined (meaning recipe.now) }
 {
-    if field::get_u8(recipe, 0) != TableHeader::KIND {
-        return Checked::Refused(Refusal::NoHead, 0);
+    if field::get::<u8>(recipe, 0) != TableHeader::KIND {
+        return Err(Refusal::NoHead.at(0));
     }
     if recipe.len() < HEAD_LEN {
-        return Checked::Refused(Refusal::Cut, 0);
+        return Err(Refusal::Cut.at(0));
     }
-    let Coded::Table(table) = Table::of_code(field::get_u8(recipe, CODE_AT)) else {
-        return Checked::Refused(Refusal::BadField, CODE_AT);
+    let Some(table) = Table::of_code(field::get::<u8>(recipe, CODE_AT)) else {
+        return Err(Refusal::BadField.at(CODE_AT));
     };
-    let Table::Pptt = table else {
+    if table != Table::Pptt {
         return walk(recipe, table, &mut [0u64; 1]);
-    };
+    }
     if recipe.len() < FEW_BYTES {
         return walk(recipe, table, &mut [0u64; FEW_WORDS]);
     }

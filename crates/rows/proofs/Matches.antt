@@ -2,8 +2,9 @@
 use mathlib.Core.Path.{◌≡◌, refl, sym, ◌∙◌}
 use Prim.Native.Nat.{ℕ}
 use mathlib.Core.List.{List}
-use mathlib.Core.Bool.{Bool}
-use mathlib.Core.Option.{Option, none, some}
+use mathlib.Core.Bool.{Bool, true, false}
+use mathlib.Core.Option.{none, some}
+use Rattle.std.specs.Bool.{then_some}
 use borrow.Author.Tests.{ne_eqb}
 use Rattle.format.specs.Bytes.{pick, value, part}
 use Rattle.format.specs.Table.{Table, pptt, srat, hmat, cedt, revision, frame}
@@ -11,7 +12,8 @@ use Rattle.format.specs.Form.{byte, pair}
 use Rattle.format.specs.Row.{processors, caches, memories, initiators, old_rintcs, domains, matrices, sides, bridges, windows, xors, rintcs, home, row_type, column, matches, row_of, known}
 use Rattle.format.specs.Row as format
 use Rattle.format.specs.Read.{type_in}
-use Rattle.rows.specs.Rows.{knows_as}
+use Rattle.rows.specs.declared.Row.{Row}
+use Rattle.rows.specs.Rows.{meant_row, row_meant}
 
 pub other-revision : (t : Table) {rev : ℕ} (bs : List ℕ) → (rev ≡ revision t → ⊥) → none ≡ row_of t rev (type_in t bs) bs
 unfolding row_of matches
@@ -19,6 +21,11 @@ other-revision pptt {rev} bs h = rw (ne_eqb rev 3 h)
 other-revision srat {rev} bs h = rw (ne_eqb rev 3 h)
 other-revision hmat {rev} bs h = rw (ne_eqb rev 1 h)
 other-revision cedt {rev} bs h = rw (ne_eqb rev 1 h)
+
+-- a row of the code, if a test says so
+pub when : (b : Bool) (r : Row) → row_meant (then_some b r) ≡ pick b (some (meant_row r)) none
+when true r = refl
+when false r = refl
 
 -- no other row of its table has its type
 abbrev Alone : format.Row → Type 0
@@ -50,27 +57,22 @@ by-type windows bs a = refl
 by-type xors bs a = refl
 by-type rintcs bs a = absurd a
 
--- a record with a row's revision and type, x, is of that row if its Length column says so
-pub by-column : (r : format.Row) {rev x : ℕ} {b : Bool} (bs : List ℕ) → Alone r → rev ≡ revision (home r) → x ≡ value (part bs 0 (frame (home r)).type) → x ≡ row_type r → b ≡ column r bs
-    → pick b (some r) none ≡ row_of (home r) rev (type_in (home r) bs) bs
+-- a record with a row's type, x, is of that row if its Length column says so
+pub by-column : (r : Row) {x : ℕ} {b : Bool} (bs : List ℕ) → Alone (meant_row r) → x ≡ value (part bs 0 (frame (home (meant_row r))).type) → x ≡ row_type (meant_row r) → b ≡ column (meant_row r) bs
+    → row_meant (then_some b r) ≡ row_of (home (meant_row r)) (revision (home (meant_row r))) (type_in (home (meant_row r)) bs) bs
 unfolding part
-by-column r bs a e f g h =
-    let t : type_in (home r) bs ≡ row_type r = sym f ∙ g in
-    sym (rw (e, t, by-type r bs a, ← h))
+by-column r {x} {b} bs a f g h =
+    let t : type_in (home (meant_row r)) bs ≡ row_type (meant_row r) = sym f ∙ g in
+    when b r ∙ sym (rw (t, by-type (meant_row r) bs a, ← h))
 
 -- of the two RINTCs it is the first, or the second
-pub by-columns : {rev x : ℕ} (bs : List ℕ) → rev ≡ 3 → x ≡ value (part bs 0 1) → x ≡ 7
-    → pick (column old_rintcs bs) (some old_rintcs) (pick (column rintcs bs) (some rintcs) none) ≡ row_of srat rev (type_in srat bs) bs
+pub by-columns : {x : ℕ} (bs : List ℕ) → x ≡ value (part bs 0 1) → x ≡ 7
+    → pick (column old_rintcs bs) (some old_rintcs) (pick (column rintcs bs) (some rintcs) none) ≡ row_of srat 3 (type_in srat bs) bs
 unfolding row_of matches part
-by-columns bs e f g = let t : type_in srat bs ≡ 7 = sym f ∙ g in sym (rw (e, t))
+by-columns bs f g = let t : type_in srat bs ≡ 7 = sym f ∙ g in sym (rw t)
 
 -- of the two matrices likewise
-pub by-counts : {rev x : ℕ} (bs : List ℕ) → rev ≡ 1 → x ≡ value (part bs 0 2) → x ≡ 1
-    → pick (column (matrices byte) bs) (some (matrices byte)) (pick (column (matrices pair) bs) (some (matrices pair)) none) ≡ row_of hmat rev (type_in hmat bs) bs
+pub by-counts : {x : ℕ} (bs : List ℕ) → x ≡ value (part bs 0 2) → x ≡ 1
+    → pick (column (matrices byte) bs) (some (matrices byte)) (pick (column (matrices pair) bs) (some (matrices pair)) none) ≡ row_of hmat 1 (type_in hmat bs) bs
 unfolding row_of matches part
-by-counts bs e f g = let t : type_in hmat bs ≡ 1 = sym f ∙ g in sym (rw (e, t))
-
--- the mask chooses the row, or none
-pub known-pick : (mask : ℕ) (o : Option format.Row) → known mask o ≡ pick (knows_as mask o) o none
-known-pick mask none = refl
-known-pick mask (some r) = refl
+by-counts bs f g = let t : type_in hmat bs ≡ 1 = sym f ∙ g in sym (rw t)

@@ -1,35 +1,35 @@
 -- What the rows of the code stand for, and what is asked of a record of one.
-use Rattle.std.specs.Prelude.{ℕ, List, Bool, true, false}
-use Rattle.std.proofs.Math.Option.{Option, none, some}
+use Rattle.std.specs.Prelude.{ℕ, List, Bool, true, Option, Some, None}
+use Rattle.std.proofs.Math.Option.{none, some}
+use Rattle.std.proofs.Math.Option as math
 use Rattle.format.specs.Row.{processors, caches, memories, initiators, old_rintcs, domains, matrices, sides, bridges, windows, xors, rintcs, form_in}
 use Rattle.format.specs.Row as format
 use Rattle.format.specs.Read.{sound}
 use Rattle.hmat.specs.Widths.{meant_width}
 use Rattle.rows.specs.declared.Row.{Row}
-use Rattle.rows.specs.declared.Row.TheVariants.{Processors, Caches, Memories, Initiators, OldRintcs, Domains, Matrices, Sides, Bridges, Windows, Xors, Rintcs, Unknown}
+use Rattle.rows.specs.declared.Row.TheVariants.{Processors, Caches, Memories, Initiators, OldRintcs, Domains, Matrices, Sides, Bridges, Windows, Xors, Rintcs}
 
 -- the row that a variant stands for
-abbrev pub row_meant : Row → Option format.Row
-row_meant Processors = some processors
-row_meant Caches = some caches
-row_meant Memories = some memories
-row_meant Initiators = some initiators
-row_meant OldRintcs = some old_rintcs
-row_meant Domains = some domains
-row_meant (Matrices w) = some (matrices (meant_width w))
-row_meant Sides = some sides
-row_meant Bridges = some bridges
-row_meant Windows = some windows
-row_meant Xors = some xors
-row_meant Rintcs = some rintcs
-row_meant Unknown = none
+abbrev pub meant_row : Row → format.Row
+meant_row Processors = processors
+meant_row Caches = caches
+meant_row Memories = memories
+meant_row Initiators = initiators
+meant_row OldRintcs = old_rintcs
+meant_row Domains = domains
+meant_row (Matrices w) = matrices (meant_width w)
+meant_row Sides = sides
+meant_row Bridges = bridges
+meant_row Windows = windows
+meant_row Xors = xors
+meant_row Rintcs = rintcs
+
+-- the row that is there, if one is
+abbrev pub row_meant : Option Row → math.Option format.Row
+row_meant (Some r) = some (meant_row r)
+row_meant None = none
 
 -- a record of the row is not at fault by itself; an unknown one never is
-abbrev pub sound_as : Option format.Row → List ℕ → Bool
+abbrev pub sound_as : math.Option format.Row → List ℕ → Bool
 sound_as none bs = true
 sound_as (some r) bs = sound (form_in r bs) bs
-
--- the mask has the row; nothing has an unknown one
-abbrev pub knows_as : ℕ → Option format.Row → Bool
-knows_as mask none = false
-knows_as mask (some r) = format.knows mask r

@@ -8,11 +8,8 @@ fn ordinal(table: &[u8], place: u32) -> u64 {
     let mut at = read::first_place(table);
     let mut n = 1;
     while at < end {
-        let size = field::get_u8(table, at + 1) as usize;
-        if size == 0 {
-            return n;
-        }
-        if end - at < size {
+        let size = field::get::<u8>(table, at + 1) as usize;
+        if size == 0 || end - at < size {
             return n;
         }
         at += size;
@@ -22,156 +19,122 @@ fn ordinal(table: &[u8], place: u32) -> u64 {
 }
 
 // A reference: the place in the table, and the number of the node there.
-fn reference(rt: &impl Print, word: &[u8], table: &[u8], place: u32) -> io::Result<()> {
-    words::name(rt, word)?;
+fn reference(rt: &impl Print, word: &str, table: &[u8], place: u32) -> io::Result<()> {
     if place == 0 {
-        return words::say(rt, b"none\n");
+        return println!(rt; "  {word} none");
     }
-    words::number(rt, place as u64)?;
-    words::say(rt, b" (node ")?;
-    words::number(rt, ordinal(table, place))?;
-    words::say(rt, b")\n")
+    println!(rt; "  {word} {place} (node {})", ordinal(table, place))
 }
 
 // The flags of a processor; a recipe may set any of 32 bits.
 fn processor_flags(rt: &impl Print, flags: u32) -> io::Result<()> {
+    let names = [
+        (ProcessorNode::PHYSICAL, "physical"),
+        (ProcessorNode::VALID, "valid"),
+        (ProcessorNode::THREAD, "thread"),
+        (ProcessorNode::LEAF, "leaf"),
+        (ProcessorNode::IDENTICAL, "identical"),
+    ];
     words::flags(rt, flags as u64)?;
-    let some = words::bit(rt, flags, ProcessorNode::PHYSICAL, b"physical", false)?;
-    let some = words::bit(rt, flags, ProcessorNode::VALID, b"valid", some)?;
-    let some = words::bit(rt, flags, ProcessorNode::THREAD, b"thread", some)?;
-    let some = words::bit(rt, flags, ProcessorNode::LEAF, b"leaf", some)?;
-    let some = words::bit(rt, flags, ProcessorNode::IDENTICAL, b"identical", some)?;
+    let some = words::bits(rt, flags, &names, false)?;
     if 32 <= flags {
         words::item(rt, b"bits without a name", some)?;
     }
     words::end(rt)
 }
 
-// The resources of the processor at a place.
-fn resources(rt: &impl Print, table: &[u8], place: usize, count: u32) -> io::Result<()> {
-    let mut i = 0;
-    while i < count {
+// A processor, and a line for each of its resources.
+pub fn processor(rt: &impl Print, table: &[u8], place: usize, n: ProcessorNode) -> io::Result<()> {
+    println!(rt; "processor")?;
+    processor_flags(rt, n.flags)?;
+    reference(rt, "parent", table, n.parent.0)?;
+    words::line(rt, b"processor id", n.acpi_processor_id as u64)?;
+    words::line(rt, b"resources", n.resources as u64)?;
+    for i in 0..n.resources {
         let cache = ProcessorNode::resource(table, place, i);
-        reference(rt, b"resource", table, cache.0)?;
-        i += 1;
+        reference(rt, "resource", table, cache.0)?;
     }
     Ok(())
 }
 
-// A processor, and a line for each of its resources.
-pub fn processor(rt: &impl Print, table: &[u8], place: usize, n: ProcessorNode) -> io::Result<()> {
-    words::say(rt, b"processor\n")?;
-    processor_flags(rt, n.flags)?;
-    reference(rt, b"parent", table, n.parent.0)?;
-    words::line(rt, b"processor id", n.acpi_processor_id as u64)?;
-    words::line(rt, b"resources", n.resources as u64)?;
-    resources(rt, table, place, n.resources)
-}
-
 // The flags of a cache: each stands for a field that is given.
 fn cache_flags(rt: &impl Print, flags: u32) -> io::Result<()> {
+    let names = [
+        (CacheNodeBuilder::SIZE, "size"),
+        (CacheNodeBuilder::SETS, "sets"),
+        (CacheNodeBuilder::ASSOCIATIVITY, "associativity"),
+        (CacheNodeBuilder::ALLOCATION, "allocation"),
+        (CacheNodeBuilder::TYPE, "type"),
+        (CacheNodeBuilder::POLICY, "policy"),
+        (CacheNodeBuilder::LINE_SIZE, "line size"),
+        (CacheNodeBuilder::ID, "id"),
+    ];
     words::flags(rt, flags as u64)?;
-    let some = words::bit(rt, flags, CacheNodeBuilder::SIZE, b"size", false)?;
-    let some = words::bit(rt, flags, CacheNodeBuilder::SETS, b"sets", some)?;
-    let some = words::bit(
-        rt,
-        flags,
-        CacheNodeBuilder::ASSOCIATIVITY,
-        b"associativity",
-        some,
-    )?;
-    let some = words::bit(rt, flags, CacheNodeBuilder::ALLOCATION, b"allocation", some)?;
-    let some = words::bit(rt, flags, CacheNodeBuilder::TYPE, b"type", some)?;
-    let some = words::bit(rt, flags, CacheNodeBuilder::POLICY, b"policy", some)?;
-    let some = words::bit(rt, flags, CacheNodeBuilder::LINE_SIZE, b"line size", some)?;
-    words::bit(rt, flags, CacheNodeBuilder::ID, b"id", some)?;
+    words::bits(rt, flags, &names, false)?;
     words::end(rt)
 }
 
 // A field that counts only where its flag is set.
-fn given(rt: &impl Print, flags: u32, unit: u32, word: &[u8], v: u64) -> io::Result<()> {
+fn given(rt: &impl Print, flags: u32, unit: u32, word: &str, v: u32) -> io::Result<()> {
     if flags & unit == 0 {
-        words::name(rt, word)?;
-        return words::say(rt, b"not given\n");
-    }
-    words::line(rt, word, v)
-}
-
-// The first of the attributes; now there are some.
-fn allocation(rt: &impl Print, a: u8) -> io::Result<bool> {
-    words::say(rt, b" allocation ")?;
-    match a {
-        0 => words::say(rt, b"read")?,
-        1 => words::say(rt, b"write")?,
-        _ => words::say(rt, b"both")?,
-    }
-    Ok(true)
-}
-
-// What a cache holds.
-fn kind(rt: &impl Print, ty: u8, some: bool) -> io::Result<bool> {
-    words::item(rt, b"type ", some)?;
-    match ty {
-        0 => words::say(rt, b"data")?,
-        1 => words::say(rt, b"instruction")?,
-        _ => words::say(rt, b"unified")?,
-    }
-    Ok(true)
-}
-
-// When a cache writes.
-fn policy(rt: &impl Print, w: u8, some: bool) -> io::Result<()> {
-    words::item(rt, b"policy ", some)?;
-    match w {
-        0 => words::say(rt, b"writeback"),
-        _ => words::say(rt, b"writethrough"),
+        println!(rt; "  {word} not given")
+    } else {
+        println!(rt; "  {word} {v}")
     }
 }
 
-// Allocation, type and policy, each where its flag is set.
+// Allocation, what the cache holds, and when it writes, each where its flag is set.
 fn attributes(rt: &impl Print, n: CacheNode) -> io::Result<()> {
-    words::name(rt, b"attributes")?;
-    words::hex(rt, n.attributes as u64)?;
+    let allocation = match n.allocation() {
+        0 => "read",
+        1 => "write",
+        _ => "both",
+    };
+    let kind = match n.cache_type() {
+        0 => "data",
+        1 => "instruction",
+        _ => "unified",
+    };
+    let policy = match n.write_policy() {
+        0 => "writeback",
+        _ => "writethrough",
+    };
+    print!(rt; "  attributes 0x{:x}", n.attributes)?;
     let mut some = false;
-    if n.flags & CacheNodeBuilder::ALLOCATION != 0 {
-        some = allocation(rt, n.allocation())?;
+    for (unit, word, value) in [
+        (CacheNodeBuilder::ALLOCATION, "allocation", allocation),
+        (CacheNodeBuilder::TYPE, "type", kind),
+        (CacheNodeBuilder::POLICY, "policy", policy),
+    ] {
+        if n.flags & unit != 0 {
+            some = words::item(rt, word.as_bytes(), some)?;
+            print!(rt; " {value}")?;
+        }
     }
-    if n.flags & CacheNodeBuilder::TYPE != 0 {
-        some = kind(rt, n.cache_type(), some)?;
-    }
-    if n.flags & CacheNodeBuilder::POLICY != 0 {
-        policy(rt, n.write_policy(), some)?;
-    }
-    words::end(rt)
+    println!(rt)
 }
 
 // A cache.
 pub fn cache(rt: &impl Print, table: &[u8], n: CacheNode) -> io::Result<()> {
-    words::say(rt, b"cache\n")?;
+    println!(rt; "cache")?;
     cache_flags(rt, n.flags)?;
-    reference(rt, b"next level", table, n.next_level.0)?;
-    given(rt, n.flags, CacheNodeBuilder::SIZE, b"size", n.size as u64)?;
-    given(
-        rt,
-        n.flags,
-        CacheNodeBuilder::SETS,
-        b"sets",
-        n.set_count as u64,
-    )?;
+    reference(rt, "next level", table, n.next_level.0)?;
+    given(rt, n.flags, CacheNodeBuilder::SIZE, "size", n.size)?;
+    given(rt, n.flags, CacheNodeBuilder::SETS, "sets", n.set_count)?;
     given(
         rt,
         n.flags,
         CacheNodeBuilder::ASSOCIATIVITY,
-        b"associativity",
-        n.associativity as u64,
+        "associativity",
+        n.associativity as u32,
     )?;
     attributes(rt, n)?;
     given(
         rt,
         n.flags,
         CacheNodeBuilder::LINE_SIZE,
-        b"line size",
-        n.line_size as u64,
+        "line size",
+        n.line_size as u32,
     )?;
-    given(rt, n.flags, CacheNodeBuilder::ID, b"id", n.id as u64)
+    given(rt, n.flags, CacheNodeBuilder::ID, "id", n.id)
 }

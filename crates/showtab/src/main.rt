@@ -9,33 +9,27 @@ use std::io;
 // Whether the first argument asks for all.
 fn asks_all(rt: &impl Env) -> bool {
     let mut word = [0u8; 6];
-    if prints::argument(rt, 1, &mut word) != 5 {
-        return false;
-    }
-    frames::same(field::part(&word, 0, 5), b"--all")
+    let n = prints::argument(rt, 1, &mut word);
+    word[..n] == b"--all"[..]
 }
 
 // A long table, of which the first bytes are read already: in a large room, apart from main's (see prints::never).
 fn show_large(rt: &HostRuntime, first: &[u8], all: bool, depth: u64) -> io::Result<()> {
-    let mut table = prints::large_table();
+    let mut table = prints::room::<{ prints::LARGE_TABLE }>();
     let n = prints::read_on(rt, first, &mut table)?;
     shows::show(rt, field::part(&table, 0, n), all)?;
-    if prints::never(rt) {
-        if 0 < depth {
-            show_large(rt, first, all, depth - 1)?;
-        }
+    if 0 < depth && prints::never(rt) {
+        show_large(rt, first, all, depth - 1)?;
     }
     Ok(())
 }
 
 fn main(rt: HostRuntime) -> io::Result<()> {
     let all = asks_all(&rt);
-    let mut table = prints::room();
+    let mut table = prints::room::<{ prints::ROOM }>();
     let n = prints::read_input(&rt, &mut table)?;
-    if table.len() <= n {
-        if prints::has_stack(&rt) {
-            return show_large(&rt, &table, all, 1);
-        }
+    if table.len() <= n && prints::has_stack(&rt) {
+        return show_large(&rt, &table, all, 1);
     }
     shows::show(&rt, &table[..n], all)
 }

@@ -17,6 +17,8 @@ use Rattle.laws.proofs.Tests.{both_right}
 use Rattle.laws.proofs.Bytes.{value-byte}
 use Rattle.laws.proofs.Offsets.{fields-at}
 use Rattle.laws.proofs.Fields.{fixed-now}
+use Rattle.std.specs.Prelude.{Some}
+use Rattle.field.specs.Place.{place_or_none}
 use Rattle.srat.specs.declared.Handle.{Handle}
 use Rattle.srat.specs.declared.Handle.TheVariants.{Acpi, Pci}
 use Rattle.srat.specs.declared.MemoryAffinity.{MemoryAffinity}
@@ -74,6 +76,11 @@ initiator-bad i = by i.handle refl
         both_ways true true = refl
         both_ways true false = refl
         both_ways false b = refl
+
+-- the flags have a place behind either handle
+pub flags-placed : (h : Handle) → place_or_none (flags_place h) ≡ Some (flags_place h)
+flags-placed (Acpi hid uid) = refl
+flags-placed (Pci segment bus device function) = refl
 
 pub rintc-fixed : (bs : List ℕ) → fixed_ok (layout rintc) bs ≡ rintc_fixed 20 bs
 unfolding layout

@@ -12,6 +12,7 @@ ghost use Rattle.format.specs.Normal.{calls_of_node};
 ghost use Rattle.format.specs.Field.{bad_field};
 ghost use Rattle.format.specs.Row.{initiators, form_in};
 ghost use Rattle.format.specs.Read.{sound};
+ghost use Rattle.field.specs.Place.{place_or_none};
 ghost use Rattle.srat.specs.Srat.{handle_fixed, rintc_fixed, handle_bad, flags_place, memory_node, initiator_node, rintc_node, old_rintc_node, memory_shown, initiator_shown, rintc_shown, old_rintc_shown, memory_of, memory_with, initiator_of, initiator_with, rintc_of, rintc_with};
 
 #[derive(Clone, Copy)]
@@ -121,10 +122,10 @@ impl MemoryAffinity {
     {
         let s = field::rest(table, at);
         Self {
-            proximity_domain: field::get_u32(s, 2),
-            base_address: field::get_u64(s, 8),
-            length: field::get_u64(s, 16),
-            flags: field::get_u32(s, 28),
+            proximity_domain: field::get(s, 2),
+            base_address: field::get(s, 8),
+            length: field::get(s, 16),
+            flags: field::get(s, 28),
         }
     }
 
@@ -132,19 +133,19 @@ impl MemoryAffinity {
     fn is_fixed(row: &[u8]) -> bool
         ensures { result ≡ fixed_ok (layout memory) row.now }
     {
-        if field::get_u8(row, 0) != Self::TYPE {
+        if field::get::<u8>(row, 0) != Self::TYPE {
             return false;
         }
-        if field::get_u8(row, 1) as usize != Self::LEN {
+        if field::get::<u8>(row, 1) as usize != Self::LEN {
             return false;
         }
-        if field::get_u16(row, 6) != 0 {
+        if field::get::<u16>(row, 6) != 0 {
             return false;
         }
-        if field::get_u32(row, 24) != 0 {
+        if field::get::<u32>(row, 24) != 0 {
             return false;
         }
-        field::get_u64(row, 32) == 0
+        field::get::<u64>(row, 32) == 0
     }
 
     // The node of a body.
@@ -152,10 +153,10 @@ impl MemoryAffinity {
         ensures { memory_node result ≡ node memory (fields (body Memory) bytes.now) }
     {
         Self {
-            proximity_domain: field::get_u32(bytes, Self::DOMAIN_AT),
-            base_address: field::get_u64(bytes, Self::BASE_AT),
-            length: field::get_u64(bytes, Self::LENGTH_AT),
-            flags: field::get_u8(bytes, Self::FLAGS_AT) as u32,
+            proximity_domain: field::get(bytes, Self::DOMAIN_AT),
+            base_address: field::get(bytes, Self::BASE_AT),
+            length: field::get(bytes, Self::LENGTH_AT),
+            flags: field::get::<u8>(bytes, Self::FLAGS_AT) as u32,
         }
     }
 
@@ -185,27 +186,24 @@ impl MemoryAffinity {
             self.length,
             self.flags as u64,
         ];
-        field::copy_u64(answer, at, &vs);
+        field::copy(answer, at, &vs);
     }
 
-    // The place of the first field outside its range, counted from the kind byte; 0 for none.
-    pub fn bad_field(self) -> usize
-        ensures { result ≡ bad_field (memory_node self) }
+    // The place of the first field outside its range, counted from the kind byte.
+    pub fn bad_field(self) -> Option<usize>
+        ensures { result ≡ place_or_none (bad_field (memory_node self)) }
     {
         if Self::FLAGS < self.flags {
-            return 1 + Self::FLAGS_AT;
+            return Some(1 + Self::FLAGS_AT);
         }
-        0
+        None
     }
 
     // Whether a record is fixed where it has to be, and no field outside its range.
     pub fn is_sound(row: &[u8]) -> bool
         ensures { result ≡ sound memory row.now }
     {
-        if !Self::is_fixed(row) {
-            return false;
-        }
-        Self::get(row, 0).bad_field() == 0
+        Self::is_fixed(row) && Self::get(row, 0).bad_field().is_none()
     }
 }
 
@@ -263,43 +261,42 @@ impl Handle {
     fn is_pci_fixed(row: &[u8]) -> bool
         ensures { result ≡ eqb (value (part row.now 12 12)) 0 }
     {
-        if field::get_u32(row, 12) != 0 {
+        if field::get::<u32>(row, 12) != 0 {
             return false;
         }
-        field::get_u64(row, 16) == 0
+        field::get::<u64>(row, 16) == 0
     }
 
     // The handle type of an initiator's record, and the zeros behind the handle.
     fn is_fixed(row: &[u8]) -> bool
         ensures { result ≡ handle_fixed row.now }
     {
-        match field::get_u8(row, 3) {
-            Self::ACPI => field::get_u32(row, 20) == 0,
+        match field::get::<u8>(row, 3) {
+            Self::ACPI => field::get::<u32>(row, 20) == 0,
             Self::PCI => Self::is_pci_fixed(row),
             _ => false,
         }
     }
 
-    // The place of its first field outside its range, counted from the kind byte; 0 for none.
-    fn bad_field(self) -> usize
-        ensures { result ≡ handle_bad self }
+    // The place of its first field outside its range, counted from the kind byte.
+    fn bad_field(self) -> Option<usize>
+        ensures { result ≡ place_or_none (handle_bad self) }
     {
         let Handle::Pci {
-            segment: _,
-            bus: _,
             device,
             function,
+            ..
         } = self
         else {
-            return 0;
+            return None;
         };
         if Self::MAX_DEVICE < device {
-            return 1 + GenericInitiator::DEVICE_AT;
+            return Some(1 + GenericInitiator::DEVICE_AT);
         }
         if Self::MAX_FUNCTION < function {
-            return 1 + GenericInitiator::FUNCTION_AT;
+            return Some(1 + GenericInitiator::FUNCTION_AT);
         }
-        0
+        None
     }
 
     // The place of the flags behind it, counted from the kind byte.
@@ -307,13 +304,8 @@ impl Handle {
         ensures { result ≡ flags_place self }
     {
         match self {
-            Handle::Acpi { hid: _, uid: _ } => 1 + GenericInitiator::ACPI_FLAGS_AT,
-            Handle::Pci {
-                segment: _,
-                bus: _,
-                device: _,
-                function: _,
-            } => 1 + GenericInitiator::PCI_FLAGS_AT,
+            Handle::Acpi { .. } => 1 + GenericInitiator::ACPI_FLAGS_AT,
+            Handle::Pci { .. } => 1 + GenericInitiator::PCI_FLAGS_AT,
         }
     }
 }
@@ -456,8 +448,7 @@ impl GenericInitiator {
     pub fn put(self, out: &mut [u8], at: usize)
         ensures { out.new ≡ over out.old at (bytes as_is (initiator_node self)) }
     {
-        let handle = self.handle;
-        match handle {
+        match self.handle {
             Handle::Acpi { hid, uid } => self.put_acpi(hid, uid, out, at),
             Handle::Pci {
                 segment,
@@ -473,23 +464,19 @@ impl GenericInitiator {
         ensures { initiator_node result ≡ node_at as_is (form_in initiators (drop at table.now)) (drop at table.now) }
     {
         let s = field::rest(table, at);
-        let proximity_domain = field::get_u32(s, 4);
-        let flags = field::get_u32(s, 24);
-        if field::get_u8(s, 3) == Handle::ACPI {
-            let handle = Handle::new_acpi(field::get_u64(s, 8), field::get_u32(s, 16));
-            return Self {
-                proximity_domain,
-                handle,
-                flags,
-            };
-        }
-        let devfn = field::get_u8(s, 11);
-        let handle = Handle::new_pci(
-            field::get_u16(s, 8),
-            field::get_u8(s, 10),
-            devfn / 8,
-            devfn % 8,
-        );
+        let proximity_domain = field::get::<u32>(s, 4);
+        let flags = field::get::<u32>(s, 24);
+        let handle = if field::get::<u8>(s, 3) == Handle::ACPI {
+            Handle::new_acpi(field::get::<u64>(s, 8), field::get::<u32>(s, 16))
+        } else {
+            let devfn = field::get::<u8>(s, 11);
+            Handle::new_pci(
+                field::get::<u16>(s, 8),
+                field::get::<u8>(s, 10),
+                devfn / 8,
+                devfn % 8,
+            )
+        };
         Self {
             proximity_domain,
             handle,
@@ -501,19 +488,19 @@ impl GenericInitiator {
     fn is_fixed(row: &[u8]) -> bool
         ensures { result ≡ fixed_ok (layout (form_in initiators row.now)) row.now }
     {
-        if field::get_u8(row, 0) != Self::TYPE {
+        if field::get::<u8>(row, 0) != Self::TYPE {
             return false;
         }
-        if field::get_u8(row, 1) as usize != Self::LEN {
+        if field::get::<u8>(row, 1) as usize != Self::LEN {
             return false;
         }
-        if field::get_u8(row, 2) != 0 {
+        if field::get::<u8>(row, 2) != 0 {
             return false;
         }
         if !Handle::is_fixed(row) {
             return false;
         }
-        field::get_u32(row, 28) == 0
+        field::get::<u32>(row, 28) == 0
     }
 
     // The node of an ACPI device's body.
@@ -521,13 +508,13 @@ impl GenericInitiator {
         ensures { initiator_node result ≡ node acpi (fields (body Acpi) bytes.now) }
     {
         let handle = Handle::new_acpi(
-            field::get_u64(bytes, Self::HID_AT),
-            field::get_u32(bytes, Self::UID_AT),
+            field::get::<u64>(bytes, Self::HID_AT),
+            field::get::<u32>(bytes, Self::UID_AT),
         );
         Self {
-            proximity_domain: field::get_u32(bytes, Self::DOMAIN_AT),
+            proximity_domain: field::get(bytes, Self::DOMAIN_AT),
             handle,
-            flags: field::get_u8(bytes, Self::ACPI_FLAGS_AT) as u32,
+            flags: field::get::<u8>(bytes, Self::ACPI_FLAGS_AT) as u32,
         }
     }
 
@@ -536,15 +523,15 @@ impl GenericInitiator {
         ensures { initiator_node result ≡ node pci (fields (body Pci) bytes.now) }
     {
         let handle = Handle::new_pci(
-            field::get_u16(bytes, Self::SEGMENT_AT),
-            field::get_u8(bytes, Self::BUS_AT),
-            field::get_u8(bytes, Self::DEVICE_AT),
-            field::get_u8(bytes, Self::FUNCTION_AT),
+            field::get::<u16>(bytes, Self::SEGMENT_AT),
+            field::get::<u8>(bytes, Self::BUS_AT),
+            field::get::<u8>(bytes, Self::DEVICE_AT),
+            field::get::<u8>(bytes, Self::FUNCTION_AT),
         );
         Self {
-            proximity_domain: field::get_u32(bytes, Self::DOMAIN_AT),
+            proximity_domain: field::get(bytes, Self::DOMAIN_AT),
             handle,
-            flags: field::get_u8(bytes, Self::PCI_FLAGS_AT) as u32,
+            flags: field::get::<u8>(bytes, Self::PCI_FLAGS_AT) as u32,
         }
     }
 
@@ -595,8 +582,7 @@ impl GenericInitiator {
         ensures out_after { out.new ≡ over out.old at (calls_of_node (initiator_node self)) }
         ensures value { result ≡ length (calls_of_node (initiator_node self)) }
     {
-        let handle = self.handle;
-        match handle {
+        match self.handle {
             Handle::Acpi { hid, uid } => self.put_acpi_body(hid, uid, out, at),
             Handle::Pci {
                 segment,
@@ -611,15 +597,9 @@ impl GenericInitiator {
     pub fn fields_count(self) -> usize
         ensures { result ≡ length (initiator_shown self) }
     {
-        let handle = self.handle;
-        match handle {
-            Handle::Acpi { hid: _, uid: _ } => Self::ACPI_FIELDS,
-            Handle::Pci {
-                segment: _,
-                bus: _,
-                device: _,
-                function: _,
-            } => Self::PCI_FIELDS,
+        match self.handle {
+            Handle::Acpi { .. } => Self::ACPI_FIELDS,
+            Handle::Pci { .. } => Self::PCI_FIELDS,
         }
     }
 
@@ -629,11 +609,10 @@ impl GenericInitiator {
     {
         let domain = self.proximity_domain as u64;
         let flags = self.flags as u64;
-        let handle = self.handle;
-        match handle {
+        match self.handle {
             Handle::Acpi { hid, uid } => {
                 let vs = [Handle::ACPI as u64, domain, hid, uid as u64, flags];
-                field::copy_u64(answer, at, &vs);
+                field::copy(answer, at, &vs);
             }
             Handle::Pci {
                 segment,
@@ -650,7 +629,7 @@ impl GenericInitiator {
                     function as u64,
                     flags,
                 ];
-                field::copy_u64(answer, at, &vs);
+                field::copy(answer, at, &vs);
             }
         }
     }
@@ -662,29 +641,26 @@ impl GenericInitiator {
         flags <= Self::FLAGS
     }
 
-    // The place of the first field outside its range, counted from the kind byte; 0 for none.
-    pub fn bad_field(self) -> usize
-        ensures { result ≡ bad_field (initiator_node self) }
+    // The place of the first field outside its range, counted from the kind byte.
+    pub fn bad_field(self) -> Option<usize>
+        ensures { result ≡ place_or_none (bad_field (initiator_node self)) }
     {
         let handle = self.handle;
         let bad = handle.bad_field();
-        if bad != 0 {
+        if bad.is_some() {
             return bad;
         }
         if !Self::is_good_flags(self.flags) {
-            return handle.flags_place();
+            return Some(handle.flags_place());
         }
-        0
+        None
     }
 
     // Whether a record is fixed where it has to be, and no field outside its range: device and function share a byte, so that neither can be.
     pub fn is_sound(row: &[u8]) -> bool
         ensures { result ≡ sound (form_in initiators row.now) row.now }
     {
-        if !Self::is_fixed(row) {
-            return false;
-        }
-        Self::is_good_flags(field::get_u32(row, 24))
+        Self::is_fixed(row) && Self::is_good_flags(field::get::<u32>(row, 24))
     }
 }
 
@@ -775,10 +751,10 @@ impl RintcAffinity {
     {
         let s = field::rest(table, at);
         Self {
-            proximity_domain: field::get_u32(s, 4),
-            acpi_processor_uid: field::get_u32(s, 8),
-            flags: field::get_u32(s, 12),
-            clock_domain: field::get_u32(s, 16),
+            proximity_domain: field::get(s, 4),
+            acpi_processor_uid: field::get(s, 8),
+            flags: field::get(s, 12),
+            clock_domain: field::get(s, 16),
         }
     }
 
@@ -786,13 +762,13 @@ impl RintcAffinity {
     fn is_fixed(row: &[u8], len: usize) -> bool
         ensures { result ≡ rintc_fixed len row.now }
     {
-        if field::get_u8(row, 0) != Self::TYPE {
+        if field::get::<u8>(row, 0) != Self::TYPE {
             return false;
         }
-        if field::get_u8(row, 1) as usize != len {
+        if field::get::<u8>(row, 1) as usize != len {
             return false;
         }
-        field::get_u16(row, 2) == 0
+        field::get::<u16>(row, 2) == 0
     }
 
     // The node of a body.
@@ -800,10 +776,10 @@ impl RintcAffinity {
         ensures { rintc_node result ≡ node rintc (fields (body Rintc) bytes.now) }
     {
         Self {
-            proximity_domain: field::get_u32(bytes, Self::DOMAIN_AT),
-            acpi_processor_uid: field::get_u32(bytes, Self::UID_AT),
-            flags: field::get_u8(bytes, Self::FLAGS_AT) as u32,
-            clock_domain: field::get_u32(bytes, Self::CLOCK_DOMAIN_AT),
+            proximity_domain: field::get(bytes, Self::DOMAIN_AT),
+            acpi_processor_uid: field::get(bytes, Self::UID_AT),
+            flags: field::get::<u8>(bytes, Self::FLAGS_AT) as u32,
+            clock_domain: field::get(bytes, Self::CLOCK_DOMAIN_AT),
         }
     }
 
@@ -833,27 +809,24 @@ impl RintcAffinity {
             self.flags as u64,
             self.clock_domain as u64,
         ];
-        field::copy_u64(answer, at, &vs);
+        field::copy(answer, at, &vs);
     }
 
-    // The place of the first field outside its range, counted from the kind byte; 0 for none.
-    pub fn bad_field(self) -> usize
-        ensures { result ≡ bad_field (rintc_node self) }
+    // The place of the first field outside its range, counted from the kind byte.
+    pub fn bad_field(self) -> Option<usize>
+        ensures { result ≡ place_or_none (bad_field (rintc_node self)) }
     {
         if Self::FLAGS < self.flags {
-            return 1 + Self::FLAGS_AT;
+            return Some(1 + Self::FLAGS_AT);
         }
-        0
+        None
     }
 
     // Whether a record is fixed where it has to be, and no field outside its range.
     pub fn is_sound(row: &[u8]) -> bool
         ensures { result ≡ sound rintc row.now }
     {
-        if !Self::is_fixed(row, Self::LEN) {
-            return false;
-        }
-        Self::get(row, 0).bad_field() == 0
+        Self::is_fixed(row, Self::LEN) && Self::get(row, 0).bad_field().is_none()
     }
 }
 
@@ -883,9 +856,9 @@ impl OldRintcAffinity {
     {
         let s = field::rest(table, at);
         Self {
-            acpi_processor_uid: field::get_u32(s, 4),
-            flags: field::get_u32(s, 8),
-            clock_domain: field::get_u32(s, 12),
+            acpi_processor_uid: field::get(s, 4),
+            flags: field::get(s, 8),
+            clock_domain: field::get(s, 12),
         }
     }
 
@@ -898,16 +871,13 @@ impl OldRintcAffinity {
             self.flags as u64,
             self.clock_domain as u64,
         ];
-        field::copy_u64(answer, at, &vs);
+        field::copy(answer, at, &vs);
     }
 
     // Whether a record is fixed where it has to be, and no field outside its range.
     pub fn is_sound(row: &[u8]) -> bool
         ensures { result ≡ sound old_rintc row.now }
     {
-        if !RintcAffinity::is_fixed(row, Self::LEN) {
-            return false;
-        }
-        field::get_u32(row, 8) <= Self::FLAGS
+        RintcAffinity::is_fixed(row, Self::LEN) && field::get::<u32>(row, 8) <= Self::FLAGS
     }
 }

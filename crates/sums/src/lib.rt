@@ -2,10 +2,11 @@
 #![tactic(auto)]
 
 ghost use Rattle.std.specs.Prelude.{◌≡◌};
-ghost use Rattle.text.specs.Text.{laid};
+ghost use Rattle.text.specs.Text.{laid, with};
 ghost use Rattle.sums.specs.Lines.{entire, verdict, behind_line, checked, lines_of};
 
 use header::TableHeader;
+use text::Text;
 
 // Whether there is a table with all of its bytes: at least a header, and as many as its length says.
 fn entire(bytes: &[u8]) -> bool
@@ -18,37 +19,39 @@ fn entire(bytes: &[u8]) -> bool
     n <= bytes.len()
 }
 
-fn verdict(right: bool, out: &mut [u8], n: usize) -> usize
-    ensures { (result, out.new) ≡ laid out.old n (verdict right) }
+fn verdict(right: bool, text: &mut Text)
+    ensures { text.new ≡ with text.old (verdict right) }
 {
     if right {
-        return text::bytes(out, n, b"checksum right\n");
+        return text.bytes(b"checksum right\n");
     }
-    text::bytes(out, n, b"checksum wrong\n")
+    text.bytes(b"checksum wrong\n");
 }
 
 // What stands behind the table, if anything does: the sum has it, and the checksum does not cover it.
-fn behind_line(rest: &[u8], out: &mut [u8], n: usize) -> usize
-    ensures { (result, out.new) ≡ laid out.old n (behind_line rest.now) }
+#[tactic(auto, using(text::proofs::Texts::with_with), unfolding(crate::specs::Lines::behind_line))]
+fn behind_line(rest: &[u8], text: &mut Text)
+    ensures { text.new ≡ with text.old (behind_line rest.now) }
 {
-    if rest.len() == 0 {
-        return text::bytes(out, n, b"");
+    if rest.is_empty() {
+        return;
     }
-    let mut m = text::bytes(out, n, b"bytes behind the table");
-    m = text::spaced(out, m, rest.len() as u64);
-    text::byte(out, m, b'\n')
+    text.bytes(b"bytes behind the table");
+    text.spaced(rest.len() as u64);
+    text.byte(b'\n');
 }
 
 // The lines about the checksum.
-fn checked(bytes: &[u8], out: &mut [u8], n: usize) -> usize
-    ensures { (result, out.new) ≡ laid out.old n (checked bytes.now) }
+#[tactic(auto, using(text::proofs::Texts::with_with), unfolding(crate::specs::Lines::checked))]
+fn checked(bytes: &[u8], text: &mut Text)
+    ensures { text.new ≡ with text.old (checked bytes.now) }
 {
     if !entire(bytes) {
-        return text::bytes(out, n, b"no whole table\n");
+        return text.bytes(b"no whole table\n");
     }
-    let m = verdict(frames::right(bytes), out, n);
+    verdict(frames::right(bytes), text);
     let len = TableHeader::length_in(bytes) as usize;
-    behind_line(field::rest(bytes, len), out, m)
+    behind_line(field::rest(bytes, len), text);
 }
 
 // All lines, at the front of out. How far they reach.
@@ -56,9 +59,11 @@ pub fn lines(bytes: &[u8], out: &mut [u8]) -> usize
     ensures { (result, out.new) ≡ laid out.old 0 (lines_of bytes.now) }
 {
     let sum = field::u8sum(bytes);
-    let mut m = text::summed(out, 0, sum);
-    m = text::bytes(out, m, b"\nremainder");
-    m = text::spaced(out, m, sum.low as u64);
-    m = text::byte(out, m, b'\n');
-    checked(bytes, out, m)
+    let mut text = Text::new(out);
+    text.summed(sum);
+    text.bytes(b"\nremainder");
+    text.spaced(sum.low as u64);
+    text.byte(b'\n');
+    checked(bytes, &mut text);
+    text.len()
 }

@@ -12,23 +12,21 @@ fn show(rt: &impl Print, table: &[u8]) -> io::Result<()> {
 
 // A long table, of which the first bytes are read already: in a large room, apart from main's (see prints::never).
 fn show_large(rt: &HostRuntime, first: &[u8], depth: u64) -> io::Result<()> {
-    let mut table = prints::large_table();
+    let mut table = prints::room::<{ prints::LARGE_TABLE }>();
     let n = prints::read_on(rt, first, &mut table)?;
     if n < table.len() {
         show(rt, field::part(&table, 0, n))?;
     } else {
         eprintln!(rt; "the table has 67174400 bytes or more")?;
     }
-    if prints::never(rt) {
-        if 0 < depth {
-            show_large(rt, first, depth - 1)?;
-        }
+    if 0 < depth && prints::never(rt) {
+        show_large(rt, first, depth - 1)?;
     }
     Ok(())
 }
 
 fn main(rt: HostRuntime) -> io::Result<()> {
-    let mut table = prints::room();
+    let mut table = prints::room::<{ prints::ROOM }>();
     let n = prints::read_input(&rt, &mut table)?;
     if n < table.len() {
         show(&rt, &table[..n])

@@ -1,54 +1,30 @@
 -- The turns of the loops over text, and their ends.
 use mathlib.Core.Path.{◌≡◌, refl}
-use Prim.Native.Nat.{ℕ, suc, ◌+◌, ◌*◌, ◌≤◌, ◌<◌}
+use Prim.Native.Nat.{ℕ, ◌+◌, ◌*◌, ◌/◌, ◌≤◌, ◌<◌, min}
 use mathlib.Core.List.{List, [], ◌∷◌}
-use mathlib.Core.Bool.{true, not}
+use mathlib.Core.Bool.{Bool, true, false}
 use native.Mathlib.Nat.{zero-add}
 use native.Mathlib.Omega.{arith}
-use lib.Dec.{eqb}
+use borrow.Author.Tests.{leb-true, leb-false}
+use lib.Dec.{leb}
 use lib.ListN.{length, drop, set, length-drop, drop_of_length-le}
-use Rattle.format.specs.Bytes.{pick, both, at, over}
-use Rattle.laws.proofs.Bytes.{drop-turn, over-turn, over_none}
-use Rattle.talk.specs.Words.{space_in}
+use Rattle.format.specs.Bytes.{at, over}
+use Rattle.laws.proofs.Bytes.{drop-turn, over-turn, over_none, over-past}
 use Rattle.talk.specs.Numbers.{step_to, onto, number_from, number_in}
-use Rattle.talk.specs.Hex.{value_of, all_hex, pair_of, pairs, all_are}
-use Rattle.talk.specs.declared.Number.TheVariants.{Value, Other}
+use Rattle.talk.specs.Hex.{pair_of, pairs}
+use Rattle.std.specs.Prelude.{Some, None}
 
 module _ (s : List ℕ) (i : ℕ) (h : i < length s) where
-  pub space-turn : space_in (drop i s) ≡ pick (eqb (at s i) 32) 0 (suc (space_in (drop (i + 1) s)))
-  unfolding space_in
-  space-turn = rw (drop-turn s i h)
-
-  pub hex-turn : all_hex (drop i s) ≡ both (not (eqb (value_of (at s i)) 16)) (all_hex (drop (i + 1) s))
-  unfolding all_hex
-  hex-turn = rw (drop-turn s i h)
-
-  pub are-turn : (v : ℕ) → all_are v (drop i s) ≡ both (eqb (at s i) v) (all_are v (drop (i + 1) s))
-  unfolding all_are
-  are-turn v = rw (drop-turn s i h)
-
   pub number-turn : (most v : ℕ) → number_from most v (drop i s) ≡ onto (step_to most v (at s i)) (λ (w : ℕ). number_from most w (drop (i + 1) s))
   unfolding number_from
   number-turn most v = rw (drop-turn s i h)
 
 module _ (s : List ℕ) (i : ℕ) (h : length s ≤ i) where
-  pub space-end : space_in (drop i s) ≡ 0
-  unfolding space_in
-  space-end = rw (drop_of_length-le s h)
-
-  pub hex-end : all_hex (drop i s) ≡ true
-  unfolding all_hex
-  hex-end = rw (drop_of_length-le s h)
-
-  pub are-end : (v : ℕ) → all_are v (drop i s) ≡ true
-  unfolding all_are
-  are-end v = rw (drop_of_length-le s h)
-
-  pub number-end : (most v : ℕ) → number_from most v (drop i s) ≡ Value v
+  pub number-end : (most v : ℕ) → number_from most v (drop i s) ≡ Some v
   unfolding number_from
   number-end most v = rw (drop_of_length-le s h)
 
-pub number-none : (most : ℕ) (s : List ℕ) → length s ≡ 0 → number_in most s ≡ Other
+pub number-none : (most : ℕ) (s : List ℕ) → length s ≡ 0 → number_in most s ≡ None
 unfolding number_in
 number-none most [] h = refl
 number-none most (b ∷ bs) h = absurd (omega arith)
@@ -75,6 +51,12 @@ pairs-short [] h = refl
 pairs-short (a ∷ []) h = refl
 pairs-short (a ∷ b ∷ bs) h = absurd (omega arith)
 
-pub unhex-end : (text out : List ℕ) (i : ℕ) → length text ≤ 2 * i + 1 → over out i (pairs (drop (2 * i) text)) ≡ out
-unhex-end text out i h =
-    rw (pairs-short (drop (2 * i) text) (simp length-drop (omega arith))) (over_none out i [] (omega arith))
+-- nothing is still to come where the digits end, or the room
+pub unhex-end : (text out : List ℕ) (i : ℕ) → min (length out) (length text / 2) ≤ i → over out i (pairs (drop (2 * i) text)) ≡ out
+unhex-end text out i h = by (leb (length out) i) refl
+  where
+    by : (b : Bool) → leb (length out) i ≡ b → over out i (pairs (drop (2 * i) text)) ≡ out
+    by true l = over-past out i _ (leb-true (length out) i l)
+    by false l =
+        let m = leb-false (length out) i l in
+        rw (pairs-short (drop (2 * i) text) (simp length-drop (omega arith))) (over_none out i [] (omega arith))

@@ -13,14 +13,7 @@ ghost use Rattle.talk.specs.Hex.{value_of, pair_of, all_hex, pairs, data_in, all
 fn space(text: &[u8]) -> usize
     ensures { (result ≡ space_in text.now) × (result ≤ length text.now) }
 {
-    let mut i = 0;
-    while i < text.len() {
-        if text[i] == b' ' {
-            return i;
-        }
-        i += 1;
-    }
-    i
+    text.iter().position(|&b| b == b' ').unwrap_or(text.len())
 }
 
 // What stands before the first space.
@@ -45,160 +38,116 @@ pub enum Call {
     Out,
     Read,
     Sum,
-    Other,
 }
 
 // The call that a word names.
-pub fn named(name: &[u8]) -> Call
+#[tactic(auto, using(crate::proofs::Tests::same_pointwise), unfolding(crate::specs::Words::call_in))]
+pub fn named(name: &[u8]) -> Option<Call>
     ensures { result ≡ call_in name.now }
 {
-    if frames::same(name, b"build") {
-        return Call::Build;
+    if name == b"build".as_slice() {
+        return Some(Call::Build);
     }
-    if frames::same(name, b"out") {
-        return Call::Out;
+    if name == b"out".as_slice() {
+        return Some(Call::Out);
     }
-    if frames::same(name, b"read") {
-        return Call::Read;
+    if name == b"read".as_slice() {
+        return Some(Call::Read);
     }
-    if frames::same(name, b"sum") {
-        return Call::Sum;
+    if name == b"sum".as_slice() {
+        return Some(Call::Sum);
     }
-    Call::Other
+    None
 }
 
 // ---- decimal numbers
 
-#[derive(Clone, Copy)]
-pub enum Number {
-    Value(u64),
-    Other,
-}
-
 // A number with one more digit behind it, if that is a digit and the number no more than most.
-fn step(v: u64, b: u8, most: u64) -> Number
+#[tactic(auto, unfolding(crate::specs::Numbers::step_to))]
+fn step(v: u64, b: u8, most: u64) -> Option<u64>
     ensures { result ≡ step_to most v b }
 {
-    if b < b'0' {
-        return Number::Other;
+    if !b.is_ascii_digit() {
+        return None;
     }
-    if b'9' < b {
-        return Number::Other;
-    }
-    let d = (b - b'0') as u64;
-    if most < d {
-        return Number::Other;
-    }
-    if (most - d) / 10 < v {
-        return Number::Other;
-    }
-    Number::Value(v * 10 + d)
+    let w = v.checked_mul(10)?.checked_add((b - b'0') as u64)?;
+    if w <= most { Some(w) } else { None }
 }
 
 // The number that a word of decimal digits stands for, up to most.
-pub fn decimal(text: &[u8], most: u64) -> Number
+pub fn decimal(text: &[u8], most: u64) -> Option<u64>
     ensures { result ≡ number_in most text.now }
 {
-    if text.len() == 0 {
-        return Number::Other;
+    if text.is_empty() {
+        return None;
     }
-    let mut v: u64 = 0;
-    let mut i = 0;
-    while i < text.len() {
-        match step(v, text[i], most) {
-            Number::Value(w) => v = w,
-            Number::Other => return Number::Other,
-        }
-        i += 1;
+    let mut v = 0;
+    for &b in text {
+        v = step(v, b, most)?;
     }
-    Number::Value(v)
+    Some(v)
 }
 
 // ---- hexadecimal digits, lower case
 
-// The number of a digit; 16 for another byte.
-fn value(b: u8) -> u8
+// The number of a digit.
+#[tactic(auto, unfolding(crate::specs::Hex::value_of))]
+fn value(b: u8) -> Option<u8>
     ensures { result ≡ value_of b }
 {
-    if b < b'0' {
-        return 16;
+    match b {
+        b'0'..=b'9' => Some(b - b'0'),
+        b'a'..=b'f' => Some(b - b'a' + 10),
+        _ => None,
     }
-    if b <= b'9' {
-        return b - b'0';
-    }
-    if b < b'a' {
-        return 16;
-    }
-    if b <= b'f' {
-        return b - b'a' + 10;
-    }
-    16
 }
 
 // Whether all bytes are digits.
 fn all_hex(text: &[u8]) -> bool
     ensures { result ≡ all_hex text.now }
 {
-    let mut i = 0;
-    while i < text.len() {
-        if value(text[i]) == 16 {
-            return false;
-        }
-        i += 1;
-    }
-    true
+    text.iter().all(|&b| value(b).is_some())
 }
 
-// How many bytes a word stands for.
+// Why a word stands for no bytes.
 #[derive(Clone, Copy)]
-pub enum Data {
-    Count(usize),
+pub enum DataError {
     TooLong,
     Other,
 }
 
 // How many bytes a word stands for, where there is room for so many: two digits a byte, '-' none.
-pub fn count(text: &[u8], room: usize) -> Data
+#[tactic(auto, using(crate::proofs::Tests::same_pointwise), unfolding(crate::specs::Hex::data_in))]
+pub fn count(text: &[u8], room: usize) -> Result<usize, DataError>
     ensures { result ≡ data_in room text.now }
 {
-    if frames::same(text, b"-") {
-        return Data::Count(0);
+    if text == b"-".as_slice() {
+        return Ok(0);
     }
     let n = text.len();
-    if n == 0 {
-        return Data::Other;
-    }
-    if n % 2 == 1 {
-        return Data::Other;
-    }
-    if !all_hex(text) {
-        return Data::Other;
+    if n == 0 || n % 2 == 1 || !all_hex(text) {
+        return Err(DataError::Other);
     }
     if room < n / 2 {
-        return Data::TooLong;
+        return Err(DataError::TooLong);
     }
-    Data::Count(n / 2)
+    Ok(n / 2)
 }
 
-// The byte of two digits.
+// The byte of two digits; what is no digit counts as 0.
+#[tactic(auto, using(crate::proofs::Tests::value_few), unfolding(crate::specs::Hex::pair_of))]
 fn pair(a: u8, b: u8) -> u8
     ensures { result ≡ pair_of a b }
 {
-    value(a) % 16 * 16 + value(b) % 16
+    value(a).unwrap_or(0) * 16 + value(b).unwrap_or(0)
 }
 
 // Writes the bytes of a word's digits, as many as there is room for.
 pub fn unhex(text: &[u8], out: &mut [u8])
     ensures { out.new ≡ over out.old 0 (pairs text.now) }
 {
-    let n = text.len() / 2;
-    let mut i = 0;
-    while i < n {
-        if out.len() <= i {
-            return;
-        }
+    for i in 0..out.len().min(text.len() / 2) {
         out[i] = pair(text[2 * i], text[2 * i + 1]);
-        i += 1;
     }
 }
 
@@ -206,12 +155,5 @@ pub fn unhex(text: &[u8], out: &mut [u8])
 pub fn all_are(s: &[u8], v: u8) -> bool
     ensures { result ≡ all_are v s.now }
 {
-    let mut i = 0;
-    while i < s.len() {
-        if s[i] != v {
-            return false;
-        }
-        i += 1;
-    }
-    true
+    s.iter().all(|&b| b == v)
 }

@@ -73,11 +73,6 @@ unfolding listed
 listed-none [] h = refl
 listed-none (v ∷ vs) h = absurd (omega arith)
 
-pub listed-some : (vs : List ℕ) → (length vs ≡ 0 → ⊥) → listed vs ≡ digits 20 (at vs 0) ++ others (drop 1 vs)
-unfolding listed
-listed-some [] h = absurd (h refl)
-listed-some (v ∷ vs) h = refl
-
 -- ---- loops
 
 pub pairs-turn : (s : List ℕ) (i : ℕ) → i < length s → pairs (drop i s) ≡ glyph (at s i / 16) ∷ glyph (at s i) ∷ pairs (drop (i + 1) s)

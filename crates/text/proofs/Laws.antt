@@ -1,7 +1,7 @@
 -- Laying one text behind another lays both joined: by the laws of `over`, and where the first reaches past the end the second is left out.
-use mathlib.Core.Path.{◌≡◌, refl, sym, ap, ◌∙◌}
+use mathlib.Core.Path.{◌≡◌, refl, ap, ◌∙◌}
 use Prim.Native.Nat.{ℕ, ◌+◌, ◌≤◌, min}
-use mathlib.Core.List.{List, [], ◌++◌}
+use mathlib.Core.List.{List, ◌++◌}
 use mathlib.Core.Bool.{Bool, true, false}
 use native.Mathlib.Omega.{arith}
 use borrow.Author.Tests.{leb-true, leb-false}
@@ -9,18 +9,9 @@ use lib.Dec.{leb}
 use lib.ListN.{length, take, length-append}
 use lib.Seq.{take-append_seam}
 use Rattle.format.specs.Bytes.{over}
-use Rattle.laws.proofs.Bytes.{length_over, over-over, over-past, over-cut, over_none, over-fits}
+use Rattle.laws.proofs.Bytes.{length_over, over-over, over-past, over-cut, over-fits}
 use Rattle.laws.proofs.Sole.{sole-pair}
 use Rattle.text.specs.Text.{laid}
-
--- how far the buffer is filled, and the buffer
-pub laid_as : (out : List ℕ) (n : ℕ) (s : List ℕ) {m : ℕ} {x : List ℕ} → m ≡ min (length out) (n + length s) → x ≡ over out n s → ◌≡◌ {A = ℕ × List ℕ} (m, x) (laid out n s)
-unfolding laid
-laid_as out n s e f = sole-pair e f
-
--- the end of a loop: nothing is still to come
-pub laid_end : (out : List ℕ) (n : ℕ) (t : List ℕ) → n ≤ length out → t ≡ [] → ◌≡◌ {A = ℕ × List ℕ} (n, out) (laid out n t)
-laid_end out n t h e = rw e (laid_as out n [] (omega arith) (sym (over_none out n [] (omega arith))))
 
 module _ (out : List ℕ) (n : ℕ) (s : List ℕ) {m : ℕ} {x : List ℕ} (e : ◌≡◌ {A = ℕ × List ℕ} (m, x) (laid out n s)) where
   filled : m ≡ min (length out) (n + length s)
@@ -30,10 +21,6 @@ module _ (out : List ℕ) (n : ℕ) (s : List ℕ) {m : ℕ} {x : List ℕ} (e :
   buffer : x ≡ over out n s
   unfolding laid
   buffer = ap (λ (p : ℕ × List ℕ). p.1) e
-
-  -- a buffer is not filled past its end
-  pub laid-low : m ≤ length x
-  laid-low = rw (buffer, length_over) (omega (arith, filled))
 
   behind : (t : List ℕ) → over x m t ≡ over out n (s ++ t)
   behind t = by (leb (n + length s) (length out)) refl
@@ -52,10 +39,6 @@ module _ (out : List ℕ) (n : ℕ) (s : List ℕ) {m : ℕ} {x : List ℕ} (e :
   pub laid-behind : (t : List ℕ) → laid x m t ≡ laid out n (s ++ t)
   unfolding laid
   laid-behind t = sole-pair (rw (buffer, length_over, length-append) (omega (arith, filled))) (behind t)
-
-  -- a turn of a loop: what is still to come
-  pub laid-turn : (t r : List ℕ) → r ≡ s ++ t → laid x m t ≡ laid out n r
-  laid-turn t r q = laid-behind t ∙ rw q
 
 -- two calls, one behind the other
 pub laid_next : (out : List ℕ) (n : ℕ) (s t : List ℕ) {m k : ℕ} {x y : List ℕ}

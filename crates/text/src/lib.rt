@@ -1,87 +1,12 @@
-// Text laid into a lent buffer: each function puts some behind the n bytes that the buffer is filled with and answers how far it is
-// filled then. What would reach past the end is left out.
+// Text in a lent buffer, and what is put behind it: bytes, numbers in decimal digits, bytes in hexadecimal digits.
 #![tactic(auto)]
 
-ghost use Rattle.std.specs.Prelude.{◌≡◌, [], ◌∷◌, ◌/◌};
+ghost use Rattle.std.specs.Prelude.{◌≡◌, [], ◌∷◌};
 ghost use Rattle.format.specs.Listing.{digits, spaced, refused_words, sum_words};
 ghost use Rattle.field.specs.Whole.{number_of};
-ghost use Rattle.text.specs.Text.{laid, glyph, pairs, hexed, others, listed};
+ghost use Rattle.text.specs.Text.{glyph, hexed, listed, behind, with};
 
 use field::Whole;
-
-// One byte.
-pub fn byte(out: &mut [u8], n: usize, b: u8) -> usize
-    ensures { (result, out.new) ≡ laid out.old n (b ∷ []) }
-{
-    let len = out.len();
-    if len <= n {
-        return len;
-    }
-    out[n] = b;
-    n + 1
-}
-
-// All bytes of s.
-pub fn bytes(out: &mut [u8], n: usize, s: &[u8]) -> usize
-    ensures { (result, out.new) ≡ laid out.old n s.now }
-{
-    let len = out.len();
-    field::copy(out, n, s);
-    if len <= n {
-        return len;
-    }
-    if len - n < s.len() {
-        return len;
-    }
-    n + s.len()
-}
-
-// A number in decimal digits.
-pub fn decimal(out: &mut [u8], n: usize, v: u64) -> usize
-    ensures { (result, out.new) ≡ laid out.old n (digits 20 v) }
-{
-    if v < 10 {
-        return byte(out, n, b'0' + v as u8);
-    }
-    let m = decimal(out, n, v / 10);
-    byte(out, m, b'0' + (v % 10) as u8)
-}
-
-// A space and a number.
-pub fn spaced(out: &mut [u8], n: usize, v: u64) -> usize
-    ensures { (result, out.new) ≡ laid out.old n (spaced v) }
-{
-    let m = byte(out, n, b' ');
-    decimal(out, m, v)
-}
-
-// The same of a number that may pass 64 bits.
-fn whole(out: &mut [u8], n: usize, v: Whole) -> usize
-    ensures { (result, out.new) ≡ laid out.old n (digits 22 (number_of v)) }
-{
-    if v.high == 0 {
-        return decimal(out, n, v.low as u64);
-    }
-    let m = whole(out, n, v.tenth());
-    byte(out, m, b'0' + v.digit())
-}
-
-// The words of a sum.
-pub fn summed(out: &mut [u8], n: usize, sum: Whole) -> usize
-    ensures { (result, out.new) ≡ laid out.old n (sum_words (number_of sum)) }
-{
-    let m = bytes(out, n, b"sum ");
-    whole(out, m, sum)
-}
-
-// The words of a refusal: its number and its place.
-pub fn refused(out: &mut [u8], n: usize, number: u64, place: u64) -> usize
-    ensures { (result, out.new) ≡ laid out.old n (refused_words number place) }
-{
-    let mut m = bytes(out, n, b"refused");
-    m = spaced(out, m, number);
-    spaced(out, m, place)
-}
 
 // The hexadecimal digit of a number's low four bits.
 fn glyph(v: u8) -> u8
@@ -94,65 +19,124 @@ fn glyph(v: u8) -> u8
     87 + low
 }
 
-// A byte in two hexadecimal digits, the higher first.
-fn pair(out: &mut [u8], n: usize, b: u8) -> usize
-    ensures { (result, out.new) ≡ laid out.old n (glyph (b / 16) ∷ glyph b ∷ []) }
-{
-    let m = byte(out, n, glyph(b / 16));
-    byte(out, m, glyph(b))
+// A text in a lent buffer: its first n bytes. What would reach past the end is left out.
+#[derive(Drop)]
+pub struct Text<'a> {
+    out: &'a mut [u8],
+    n: usize,
 }
 
-// Bytes in two hexadecimal digits each.
-fn pairs(out: &mut [u8], n: usize, s: &[u8]) -> usize
-    ensures { (result, out.new) ≡ laid out.old n (pairs s.now) }
-{
-    let mut m = bytes(out, n, b"");
-    let mut i = 0;
-    while i < s.len() {
-        m = pair(out, m, s[i]);
-        i += 1;
+impl<'a> Text<'a> {
+    pub fn new(out: &'a mut [u8]) -> Text<'a>
+        ensures { result ≡ behind out.entry 0 }
+    {
+        Text { out, n: 0 }
     }
-    m
-}
 
-// Bytes in hexadecimal digits; '-' where there are none.
-pub fn hex(out: &mut [u8], n: usize, s: &[u8]) -> usize
-    ensures { (result, out.new) ≡ laid out.old n (hexed s.now) }
-{
-    if s.len() == 0 {
-        return byte(out, n, b'-');
+    // The text that stands in the first n bytes of a buffer already.
+    pub fn behind(out: &'a mut [u8], n: usize) -> Text<'a>
+        ensures { result ≡ behind out.entry n }
+    {
+        let n = n.min(out.len());
+        Text { out, n }
     }
-    pairs(out, n, s)
-}
 
-// A comma and a number.
-fn other(out: &mut [u8], n: usize, v: u64) -> usize
-    ensures { (result, out.new) ≡ laid out.old n (44 ∷ digits 20 v) }
-{
-    let m = byte(out, n, b',');
-    decimal(out, m, v)
-}
-
-// Numbers with a comma before each.
-fn others(out: &mut [u8], n: usize, vs: &[u64]) -> usize
-    ensures { (result, out.new) ≡ laid out.old n (others vs.now) }
-{
-    let mut m = bytes(out, n, b"");
-    let mut i = 0;
-    while i < vs.len() {
-        m = other(out, m, vs[i]);
-        i += 1;
+    pub fn len(&self) -> usize
+        ensures { result ≡ self.now.n }
+    {
+        self.n
     }
-    m
-}
 
-// Numbers with commas between them.
-pub fn list(out: &mut [u8], n: usize, vs: &[u64]) -> usize
-    ensures { (result, out.new) ≡ laid out.old n (listed vs.now) }
-{
-    if vs.len() == 0 {
-        return bytes(out, n, b"");
+    pub fn byte(&mut self, b: u8)
+        ensures { self.new ≡ with self.old (b ∷ []) }
+    {
+        if self.n < self.out.len() {
+            self.out[self.n] = b;
+            self.n += 1;
+        }
     }
-    let m = decimal(out, n, vs[0]);
-    others(out, m, &vs[1..])
+
+    pub fn bytes(&mut self, s: &[u8])
+        ensures { self.new ≡ with self.old s.now }
+    {
+        field::copy(self.out, self.n, s);
+        self.n += s.len().min(self.out.len().saturating_sub(self.n));
+    }
+
+    // A number in decimal digits.
+    pub fn decimal(&mut self, v: u64)
+        ensures { self.new ≡ with self.old (digits 20 v) }
+    {
+        if v < 10 {
+            return self.byte(b'0' + v as u8);
+        }
+        self.decimal(v / 10);
+        self.byte(b'0' + (v % 10) as u8);
+    }
+
+    // A space and a number.
+    #[tactic(auto, using(crate::proofs::Texts::with_with), unfolding(format::specs::Listing::spaced))]
+    pub fn spaced(&mut self, v: u64)
+        ensures { self.new ≡ with self.old (spaced v) }
+    {
+        self.byte(b' ');
+        self.decimal(v);
+    }
+
+    // A number that may pass 64 bits.
+    fn whole(&mut self, v: Whole)
+        ensures { self.new ≡ with self.old (digits 22 (number_of v)) }
+    {
+        if v.high == 0 {
+            return self.decimal(v.low as u64);
+        }
+        self.whole(v.tenth());
+        self.byte(b'0' + v.digit());
+    }
+
+    // The words of a sum.
+    #[tactic(auto, using(crate::proofs::Texts::with_with), unfolding(format::specs::Listing::sum_words))]
+    pub fn summed(&mut self, sum: Whole)
+        ensures { self.new ≡ with self.old (sum_words (number_of sum)) }
+    {
+        self.bytes(b"sum ");
+        self.whole(sum);
+    }
+
+    // The words of a refusal: its number and its place.
+    #[tactic(auto, using(crate::proofs::Texts::with_with), unfolding(format::specs::Listing::refused_words))]
+    pub fn refused(&mut self, number: u64, place: u64)
+        ensures { self.new ≡ with self.old (refused_words number place) }
+    {
+        self.bytes(b"refused");
+        self.spaced(number);
+        self.spaced(place);
+    }
+
+    // Bytes in two hexadecimal digits each, the higher first; '-' where there are none.
+    pub fn hex(&mut self, s: &[u8])
+        ensures { self.new ≡ with self.old (hexed s.now) }
+    {
+        if s.is_empty() {
+            return self.byte(b'-');
+        }
+        for &b in s {
+            self.byte(glyph(b / 16));
+            self.byte(glyph(b));
+        }
+    }
+
+    // Numbers with commas between them.
+    pub fn list(&mut self, vs: &[u64])
+        ensures { self.new ≡ with self.old (listed vs.now) }
+    {
+        let Some((first, others)) = vs.split_first() else {
+            return;
+        };
+        self.decimal(*first);
+        for &v in others {
+            self.byte(b',');
+            self.decimal(v);
+        }
+    }
 }

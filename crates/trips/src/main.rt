@@ -4,11 +4,7 @@
 
 use std::io;
 
-fn number(rt: &impl Print, n: u64) -> io::Result<()> {
-    print!(rt; " {n}")
-}
-
-fn refused(rt: &impl Print, refusal: u64, place: usize) -> io::Result<()> {
+fn refused(rt: &impl Print, refusal: u32, place: usize) -> io::Result<()> {
     println!(rt; " refused {refusal} {place}")
 }
 
@@ -20,89 +16,75 @@ fn again(
     is_same: bool,
     space: &mut [u8],
 ) -> io::Result<()> {
-    number(rt, table.len() as u64)?;
-    number(rt, recipe.len() as u64)?;
-    let b = build::build(recipe, space);
-    if b.number() != 0 {
-        return refused(rt, b.number() as u64, b.place());
+    print!(rt; " {} {}", table.len(), recipe.len())?;
+    match build::build(recipe, space) {
+        Err(e) => refused(rt, e.number() as u32, e.place()),
+        Ok(n) if frames::first(space, n) != table => println!(rt; " another table"),
+        Ok(_) if is_same => println!(rt; " ok"),
+        Ok(_) => println!(rt; " ok, another recipe"),
     }
-    if !frames::same(frames::first(space, b.place()), table) {
-        return println!(rt; " another table");
-    }
-    if is_same {
-        return println!(rt; " ok");
-    }
-    println!(rt; " ok, another recipe")
 }
 
-// A recipe: its table, read out.
-fn of_recipe(
+// A table, and the recipe that is stored of it, if one is: what is read out of it has to give it again.
+fn of_table(
     rt: &impl Print,
-    recipe: &[u8],
-    table: &mut [u8],
+    table: &[u8],
+    stored: Option<&[u8]>,
     back: &mut [u8],
     space: &mut [u8],
 ) -> io::Result<()> {
-    let b = build::build(recipe, table);
-    if b.number() != 0 {
-        return refused(rt, b.number() as u64, b.place());
+    match readout::read_out(table, back) {
+        Err(e) => refused(rt, e.number(), e.place()),
+        Ok(n) => {
+            let recipe = frames::first(back, n);
+            again(
+                rt,
+                frames::own(table),
+                recipe,
+                stored.is_none_or(|r| r == recipe),
+                space,
+            )
+        }
     }
-    let own = frames::first(table, b.place());
-    let r = readout::read_out(own, back);
-    if r.number() != 0 {
-        return refused(rt, r.number() as u64, r.place());
-    }
-    let normal = frames::first(back, r.place());
-    again(rt, own, normal, frames::same(normal, recipe), space)
 }
 
-// A table: its recipe, and bytes behind its length set aside.
-fn of_table(rt: &impl Print, table: &[u8], back: &mut [u8], space: &mut [u8]) -> io::Result<()> {
-    let r = readout::read_out(table, back);
-    if r.number() != 0 {
-        return refused(rt, r.number() as u64, r.place());
-    }
-    again(
-        rt,
-        frames::own(table),
-        frames::first(back, r.place()),
-        true,
-        space,
-    )
-}
-
-// A recipe begins with the byte 1, a table with a letter.
+// A recipe begins with the byte 1, a table with a letter. Bytes behind a table's length are set aside.
 fn trip(rt: &impl Print, bytes: &[u8]) -> io::Result<()> {
-    let mut back = prints::room();
-    let mut space = prints::room();
-    if field::get_u8(bytes, 0) == 1 {
-        let mut table = prints::room();
-        return of_recipe(rt, bytes, &mut table, &mut back, &mut space);
+    let mut back = prints::room::<{ prints::ROOM }>();
+    let mut space = prints::room::<{ prints::ROOM }>();
+    if !bytes.starts_with(&[1]) {
+        return of_table(rt, bytes, None, &mut back, &mut space);
     }
-    of_table(rt, bytes, &mut back, &mut space)
+    let mut table = prints::room::<{ prints::ROOM }>();
+    match build::build(bytes, &mut table) {
+        Err(e) => refused(rt, e.number() as u32, e.place()),
+        Ok(n) => of_table(
+            rt,
+            frames::first(&table, n),
+            Some(bytes),
+            &mut back,
+            &mut space,
+        ),
+    }
 }
 
 fn show(rt: &HostRuntime, path: &[u8]) -> io::Result<()> {
     rt.write_all(path)?;
-    let mut bytes = prints::room();
+    let mut bytes = prints::room::<{ prints::ROOM }>();
     let Some(n) = prints::read_named(rt, path, &mut bytes)? else {
         return Ok(());
     };
     trip(rt, field::part(&bytes, 0, n))
 }
 
-fn argument(rt: &HostRuntime, i: usize) -> io::Result<()> {
-    let mut path = [0u8; 4096];
-    let n = prints::argument(rt, i, &mut path);
-    show(rt, &path[..n])
-}
-
 fn main(rt: HostRuntime) -> io::Result<()> {
+    let mut path = [0u8; 4096];
     for i in 1..usize::MAX {
         if !prints::has_argument(&rt, i) {
             break;
         }
-        argument(&rt, i)?;
+        let n = prints::argument(&rt, i, &mut path);
+        show(&rt, &path[..n])?;
     }
     Ok(())
 }

@@ -4,8 +4,10 @@
 ghost use Rattle.std.specs.Prelude.{true, ◌≡◌, eqb, IfOk};
 ghost use Rattle.std.specs.Int.Bits.{bit_and};
 ghost use Rattle.format.specs.Bytes.{pick};
+ghost use Rattle.words.specs.Names.{named};
 
-use std::io;
+use std::{io, slice};
+use text::Text;
 
 // Bytes as they are.
 pub fn say(rt: &impl Print, word: &[u8]) -> io::Result<()> {
@@ -37,30 +39,24 @@ pub fn end(rt: &impl Print) -> io::Result<()> {
 // A field and its number.
 pub fn line(rt: &impl Print, word: &[u8], n: u64) -> io::Result<()> {
     name(rt, word)?;
-    number(rt, n)?;
-    end(rt)
+    println!(rt; "{n}")
 }
 
 // A field and its number in hexadecimal.
 pub fn hex_line(rt: &impl Print, word: &[u8], n: u64) -> io::Result<()> {
     name(rt, word)?;
-    hex(rt, n)?;
-    end(rt)
+    println!(rt; "0x{n:x}")
 }
 
 // A field and how many bytes it says, in hexadecimal and in decimal.
 pub fn size_line(rt: &impl Print, word: &[u8], n: u64) -> io::Result<()> {
     name(rt, word)?;
-    hex(rt, n)?;
-    say(rt, b" (")?;
-    number(rt, n)?;
-    say(rt, b" bytes)\n")
+    println!(rt; "0x{n:x} ({n} bytes)")
 }
 
 // A field of flags begins: the names of the bits that are set follow.
 pub fn flags(rt: &impl Print, n: u64) -> io::Result<()> {
-    name(rt, b"flags")?;
-    hex(rt, n)
+    print!(rt; "  flags 0x{n:x}")
 }
 
 // One more name in a list, with a comma where others stand before it; now there are some.
@@ -86,88 +82,60 @@ pub fn bit(rt: &impl Print, flags: u32, unit: u32, word: &[u8], some: bool) -> i
     item(rt, word, some)
 }
 
+// The same for several bits and their names.
+pub fn bits(rt: &impl Print, flags: u32, names: &[(u32, &str)], mut some: bool) -> io::Result<bool>
+    ensures { IfOk result (λ x. x ≡ named flags some names.now) }
+{
+    for (unit, word) in names {
+        some = bit(rt, flags, *unit, word.as_bytes(), some)?;
+    }
+    Ok(some)
+}
+
 // ---- bytes
-
-// How many of the first n bytes stand before the zeros at their end.
-fn trimmed(s: &[u8], n: usize) -> usize {
-    let mut k = n;
-    while 0 < k {
-        if field::get_u8(s, k - 1) != 0 {
-            return k;
-        }
-        k -= 1;
-    }
-    0
-}
-
-// Whether the first n bytes can be printed.
-fn printable(s: &[u8], n: usize) -> bool {
-    let mut i = 0;
-    while i < n {
-        let b = field::get_u8(s, i);
-        if b < 32 {
-            return false;
-        }
-        if 126 < b {
-            return false;
-        }
-        i += 1;
-    }
-    true
-}
 
 // The first n bytes, two digits for each.
 fn digits(rt: &impl Print, s: &[u8], n: usize) -> io::Result<()> {
-    say(rt, b"0x")?;
-    let mut i = 0;
-    while i < n {
-        let b = field::get_u8(s, i);
-        print!(rt; "{b:02x}")?;
-        i += 1;
+    print!(rt; "0x")?;
+    for i in 0..n {
+        print!(rt; "{:02x}", field::get::<u8>(s, i))?;
     }
     Ok(())
 }
 
 // The first n bytes: as text, without the zeros at their end, or in hexadecimal where they are none.
 pub fn text(rt: &impl Print, s: &[u8], n: usize) -> io::Result<()> {
-    let k = trimmed(s, n);
-    if k == 0 {
+    let first = &s[..n.min(s.len())];
+    let Some(last) = first.iter().rposition(|b| *b != 0) else {
         return digits(rt, s, n);
-    }
-    if !printable(s, k) {
+    };
+    let trimmed = &first[..last + 1];
+    if !trimmed.iter().all(|b| matches!(b, b' '..=b'~')) {
         return digits(rt, s, n);
     }
     say(rt, b"\"")?;
-    prints::write_first(rt, s, k)?;
+    say(rt, trimmed)?;
     say(rt, b"\"")
 }
 
-// The first sixteen bytes, or as many as there are: laid first, and written by one call.
+// Sixteen bytes at most: laid first, and written by one call.
 fn byte_line(rt: &impl Print, s: &[u8]) -> io::Result<()> {
     let mut line = [0u8; 52];
-    let mut n = text::bytes(&mut line, 0, b"   ");
-    let mut i = 0;
-    while i < 16 {
-        if s.len() <= i {
-            break;
-        }
-        n = text::byte(&mut line, n, 32);
-        n = text::hex(&mut line, n, field::part(s, i, 1));
-        i += 1;
+    let mut text = Text::new(&mut line);
+    text.bytes(b"   ");
+    for b in s {
+        text.byte(b' ');
+        text.hex(slice::from_ref(b));
     }
-    n = text::byte(&mut line, n, 10);
+    text.byte(b'\n');
+    let n = text.len();
     prints::write_first(rt, &line, n)
 }
 
 // All bytes, sixteen a line.
 pub fn bytes(rt: &impl Print, s: &[u8]) -> io::Result<()> {
-    let mut at = 0;
-    while at < s.len() {
-        byte_line(rt, &s[at..])?;
-        if s.len() - at < 16 {
-            return Ok(());
-        }
-        at += 16;
+    for part in s.chunks(16) {
+        byte_line(rt, part)?;
     }
     Ok(())
 }

@@ -9,7 +9,7 @@ ghost use Rattle.format.specs.Kind.{body};
 ghost use Rattle.format.specs.Kind as format;
 ghost use Rattle.recipe.specs.Kinds.{meant_kind};
 ghost use Rattle.hmat.specs.Widths.{meant_width};
-ghost use Rattle.writes.specs.Writes.{windowed, fields_in, wrote, next, making, counting, growing, filling, change_of};
+ghost use Rattle.writes.specs.Writes.{windowed, fields_in, wrote, making, counting, growing, filling, change_of};
 
 use cedt::{CxlFixedMemory, CxlHostBridge, CxlTarget, XorInterleaveMath, XorMap};
 use header::Checksum;
@@ -57,25 +57,17 @@ pub struct Change {
 
 // ---- what changes
 
-// The number behind another, as far as a u32 has one.
-fn next(n: u32) -> u32
-    ensures { result ≡ next n }
-{
-    ((n as u64 + 1) % 4294967296) as u32
-}
-
 impl State {
     // A record is made at the end; i and t are a matrix's own.
     fn making(self, more: usize, initiators: u32, targets: u32) -> Change
         ensures { result ≡ making self more initiators targets }
     {
-        let latest = self.latest;
         Change {
             from: self.end,
             len: 0,
             more,
             latest: Latest {
-                nodes: next(latest.nodes),
+                nodes: self.latest.nodes.wrapping_add(1),
                 place: self.end,
                 count: 0,
                 initiators,
@@ -88,13 +80,9 @@ impl State {
     fn counting(self) -> Latest
         ensures { result ≡ counting self }
     {
-        let latest = self.latest;
         Latest {
-            nodes: latest.nodes,
-            place: latest.place,
-            count: next(latest.count),
-            initiators: latest.initiators,
-            targets: latest.targets,
+            count: self.latest.count.wrapping_add(1),
+            ..self.latest
         }
     }
 
@@ -102,9 +90,8 @@ impl State {
     fn growing(self, len: usize, more: usize) -> Change
         ensures { result ≡ growing self len more }
     {
-        let latest = self.latest;
         Change {
-            from: latest.place,
+            from: self.latest.place,
             len,
             more,
             latest: self.counting(),
@@ -127,12 +114,11 @@ impl State {
     fn setting(self, from: usize, len: usize) -> Change
         ensures { result ≡ record { from = from; len = len; more = 0; latest = self.latest } }
     {
-        let latest = self.latest;
         Change {
             from,
             len,
             more: 0,
-            latest,
+            latest: self.latest,
         }
     }
 }
@@ -145,14 +131,13 @@ fn making_matrix(width: Width, bytes: &[u8], s: State) -> Change
     s.making(node.len(), node.initiators, node.targets)
 }
 
-// A value or a cell of the newest matrix is set.
+// A value or a cell of the newest matrix is set. An initiator's place and a target's go by other numbers: one function of both would match on the side.
 fn setting_initiator(width: Width, bytes: &[u8], s: State) -> Change
     ensures { result ≡ change_of (format.Initiator (meant_width width)) s (fields (body (format.Initiator (meant_width width))) bytes.now) }
 {
-    let latest = s.latest;
     let idx = Value::from_body(width, bytes).idx as usize;
     s.setting(
-        SystemLocality::initiator_place(latest.place, idx),
+        SystemLocality::initiator_place(s.latest.place, idx),
         Value::LEN,
     )
 }
@@ -205,6 +190,7 @@ fn filling_window(s: State) -> Change
 }
 
 // What the record of a kind changes.
+#[tactic(auto, unfolding(crate::specs::Writes::change_of))]
 pub fn change_of(kind: Kind, bytes: &[u8], s: State) -> Change
     ensures { result ≡ change_of (meant_kind kind) s (fields (body (meant_kind kind)) bytes.now) }
 {
@@ -241,13 +227,13 @@ pub fn change_of(kind: Kind, bytes: &[u8], s: State) -> Change
 fn set_value(width: Width, bytes: &[u8], out: &mut [u8], place: usize)
     ensures { out.new ≡ over out.old place (le 4 (at_byte (fields (body (format.Initiator (meant_width width))) bytes.now) 1)) }
 {
-    field::put_u32(out, place, Value::from_body(width, bytes).value);
+    field::put(out, place, Value::from_body(width, bytes).value);
 }
 
 fn set_cell(width: Width, bytes: &[u8], out: &mut [u8], place: usize)
     ensures { out.new ≡ over out.old place (le 2 (at_byte (fields (body (format.Cell (meant_width width))) bytes.now) 2)) }
 {
-    field::put_u16(out, place, Cell::from_body(width, bytes).value);
+    field::put(out, place, Cell::from_body(width, bytes).value);
 }
 
 // The first n bytes; none where there are fewer. The compiler then knows the length wherever n is a constant, and no field tests its bounds.

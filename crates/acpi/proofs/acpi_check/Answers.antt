@@ -5,12 +5,12 @@ use Rattle.build.specs.Answers.{number_in, place_of}
 use Rattle.acpi.proofs.Answers.{is-checked}
 use Rattle.acpi.proofs.acpi_check.Goals as goal
 
-pub returns-in-Good : goal.returns-in-Good
-returns-in-Good c =
-    let is = is-checked c.args.recipe.now (sym (ap shown c.in-Good.is) ∙ c.check.ensures) in
+pub returns-in-Ok : goal.returns-in-Ok
+returns-in-Ok c =
+    let is = is-checked c.args.recipe.now (sym (ap shown c.in-Ok.is) ∙ c.check.ensures) in
     record { value = ap number_in is; place_after = ap place_of is }
 
-pub returns-in-Refused : goal.returns-in-Refused
-returns-in-Refused c =
-    let is = is-checked c.args.recipe.now (sym (ap shown c.in-Refused.is) ∙ c.check.ensures) in
+pub returns-in-Err : goal.returns-in-Err
+returns-in-Err c =
+    let is = is-checked c.args.recipe.now (sym (ap shown c.in-Err.is) ∙ c.check.ensures) in
     record { value = c.number.ensures ∙ ap number_in is; place_after = ap place_of is }

@@ -6,17 +6,18 @@ use Rattle.acpi.specs.Calls.{count_in, answered}
 use Rattle.acpi.proofs.Records.{read_at}
 use Rattle.acpi.proofs.acpi_read.Goals as goal
 
-pub returns-in-Record : goal.returns-in-Record
+pub returns-in-Ok : goal.returns-in-Ok
 unfolding answered
-returns-in-Record c =
+returns-in-Ok c =
     let a = c.args in
-    let is = sym (ap shown c.in-Record.is) ∙ c.read.ensures in
+    let r = c.in-Ok.reading in
+    let is = sym (ap shown c.in-Ok.is) ∙ c.read.ensures in
     let e = ap count_in is in
-    record { value = ap number_in e; place_after = ap place_of e; answer_after = read_at a.table.now a.mask a.n c.in-Record.count c.in-Record.record a.answer.now _ is c.acpi_record_at.ensures }
+    record { value = ap number_in e; place_after = ap place_of e; answer_after = read_at a.table.now a.mask a.n r.count r.«record» a.answer.now _ is c.acpi_record_at.ensures }
 
-pub returns-in-Refused : goal.returns-in-Refused
+pub returns-in-Err : goal.returns-in-Err
 unfolding answered
-returns-in-Refused c =
-    let is = sym (ap shown c.in-Refused.is) ∙ c.read.ensures in
+returns-in-Err c =
+    let is = sym (ap shown c.in-Err.is) ∙ c.read.ensures in
     let e = ap count_in is in
     record { value = c.number.ensures ∙ ap number_in e; place_after = c.place.ensures ∙ ap place_of e; answer_after = rw (← is) }

@@ -4,4 +4,4 @@ use Rattle.acpi.proofs.put_record.Goals as goal
 
 pub returns : goal.returns
 returns c =
-    record-laid _ _ _ _ _ _ _ _ _ _ _ c.row_number.ensures c.copy_u64.ensures c.put_fields.ensures
+    record-laid _ _ _ _ _ _ _ _ _ _ _ c.row_number.ensures c.copy.ensures c.put_fields.ensures

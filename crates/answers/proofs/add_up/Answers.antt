@@ -4,18 +4,13 @@ use Rattle.answers.specs.Lines.{adding}
 use Rattle.answers.proofs.Laws.{unhexed}
 use Rattle.answers.proofs.add_up.Goals as goal
 
-pub returns-in-Count : goal.returns-in-Count
+pub returns-in-Ok : goal.returns-in-Ok
 unfolding adding
-returns-in-Count c =
-    let q = sym c.count.ensures ∙ c.in-Count.is in
+returns-in-Ok c =
+    let q = sym c.count.ensures ∙ c.in-Ok.is in
     rw (q, ← unhexed _ _ _ _ _ q c.unhex.ensures c.first.ensures) c.total.ensures
 
-pub returns-in-TooLong : goal.returns-in-TooLong
+pub returns-in-Err : goal.returns-in-Err
 unfolding adding
-returns-in-TooLong c =
-    rw (sym c.count.ensures ∙ c.in-TooLong.is) c.too_long.ensures
-
-pub returns-in-Other : goal.returns-in-Other
-unfolding adding
-returns-in-Other c =
-    rw (sym c.count.ensures ∙ c.in-Other.is) c.what.ensures
+returns-in-Err c =
+    rw (sym c.count.ensures ∙ c.in-Err.is) c.bad.ensures

@@ -9,32 +9,26 @@ use Rattle.answers.proofs.ask.Goals as goal
 pub returns-in_default : goal.returns-in_default
 unfolding asking
 returns-in_default c =
-    rw (ap (number_in _) (sym c.word.ensures) ∙ sym c.decimal.ensures ∙ c.in_default.is) c.what.ensures
+    rw (ap (number_in _) (sym c.word.ensures) ∙ sym c.decimal.ensures ∙ c.in_default.is) c.bad.ensures
 
 pub returns-in_default-decimal : goal.returns-in_default-decimal
 unfolding asking
 returns-in_default-decimal c =
-    rw (ap (number_in _) (sym c.word.ensures) ∙ sym c.decimal.ensures ∙ c.in-Value.is, ← c.behind-rest.ensures, ap (number_in _) (sym c.word-2.ensures) ∙ sym c.decimal-2.ensures ∙ c.in_default-decimal.is) c.what-in_default-decimal.ensures
+    rw (ap (number_in _) (sym c.word.ensures) ∙ sym c.decimal.ensures ∙ c.in-Some.is, ← c.behind-rest.ensures, ap (number_in _) (sym c.word-2.ensures) ∙ sym c.decimal-2.ensures ∙ c.in_default-decimal.is) c.bad-in_default-decimal.ensures
 
 pub overflow_cast-mask : goal.overflow_cast-mask
 overflow_cast-mask c =
-    omega (arith, number-low 4294967295 _ _ (sym c.decimal.ensures ∙ c.in-Value.is))
+    omega (arith, number-low 4294967295 _ _ (sym c.decimal.ensures ∙ c.in-Some.is))
 
-pub returns-in-Count : goal.returns-in-Count
+pub returns-in-Ok : goal.returns-in-Ok
 unfolding asking
-returns-in-Count c =
-    let q = sym c.count.ensures ∙ c.in-Count.is in
-    rw (ap (number_in _) (sym c.word.ensures) ∙ sym c.decimal.ensures ∙ c.in-Value.is, ← c.behind-rest.ensures, ap (number_in _) (sym c.word-2.ensures) ∙ sym c.decimal-2.ensures ∙ c.in-Value-decimal.is, ← c.behind-digits.ensures, q, ← unhexed _ _ _ _ _ q c.unhex.ensures c.first-table.ensures)
+returns-in-Ok c =
+    let q = sym c.count.ensures ∙ c.in-Ok.is in
+    rw (ap (number_in _) (sym c.word.ensures) ∙ sym c.decimal.ensures ∙ c.in-Some.is, ← c.behind-rest.ensures, ap (number_in _) (sym c.word-2.ensures) ∙ sym c.decimal-2.ensures ∙ c.in-Some-decimal.is, ← c.behind-digits.ensures, q, ← unhexed _ _ _ _ _ q c.unhex.ensures c.first.ensures)
     c.look.ensures
 
-pub returns-in-TooLong : goal.returns-in-TooLong
+pub returns-in-Err : goal.returns-in-Err
 unfolding asking
-returns-in-TooLong c =
-    rw (ap (number_in _) (sym c.word.ensures) ∙ sym c.decimal.ensures ∙ c.in-Value.is, ← c.behind-rest.ensures, ap (number_in _) (sym c.word-2.ensures) ∙ sym c.decimal-2.ensures ∙ c.in-Value-decimal.is, ← c.behind-digits.ensures, sym c.count.ensures ∙ c.in-TooLong.is)
-    c.too_long.ensures
-
-pub returns-in-Other : goal.returns-in-Other
-unfolding asking
-returns-in-Other c =
-    rw (ap (number_in _) (sym c.word.ensures) ∙ sym c.decimal.ensures ∙ c.in-Value.is, ← c.behind-rest.ensures, ap (number_in _) (sym c.word-2.ensures) ∙ sym c.decimal-2.ensures ∙ c.in-Value-decimal.is, ← c.behind-digits.ensures, sym c.count.ensures ∙ c.in-Other.is)
-    c.what-in-Other.ensures
+returns-in-Err c =
+    rw (ap (number_in _) (sym c.word.ensures) ∙ sym c.decimal.ensures ∙ c.in-Some.is, ← c.behind-rest.ensures, ap (number_in _) (sym c.word-2.ensures) ∙ sym c.decimal-2.ensures ∙ c.in-Some-decimal.is, ← c.behind-digits.ensures, sym c.count.ensures ∙ c.in-Err.is)
+    c.bad-in-Err.ensures

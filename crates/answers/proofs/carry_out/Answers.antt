@@ -1,19 +1,34 @@
--- `carry_out` meets its contract: what is told of the answer is the line of the call on a filled buffer.
-use Rattle.answers.proofs.Laws.{builds, reads-out}
-use Rattle.text.specs.Text.{laid}
-use mathlib.Core.Path.{ap, ◌∙◌}
+-- `carry_out` meets its contract: the line of what the call answers is that of the call on a filled buffer.
+use mathlib.Core.Path.{ap, sym, ◌∙◌}
+use Rattle.build.specs.Answers as making
+use Rattle.readout.specs.Answers as reading
+use Rattle.text.specs.Text.{with}
+use Rattle.answers.proofs.Laws.{builds, builds_not, reads-out, reads-out_not}
 use Rattle.answers.proofs.carry_out.Goals as goal
 
-pub returns-then-builds : goal.returns-then-builds
-returns-then-builds c =
+pub returns-in-Ok : goal.returns-in-Ok
+returns-in-Ok c =
     let a = c.args in
-    rw c.if-builds.true
-    (c.tell.ensures
-    ∙ ap (laid a.text.now 0) (builds a.bytes.now a.out.now _ _ _ _ c.fill.ensures c.build-b.result c.build-b.ensures.result_value c.build-b.ensures.out_after c.number.ensures c.place.ensures))
+    let is = sym (ap making.shown c.in-Ok.is) ∙ c.build.ensures.result_value in
+    rw c.in-Build.is (c.succeeded.ensures ∙ ap (with a.text.now) (builds a.bytes.now a.out.now _ _ c.fill.ensures _ is c.build.ensures.out_after))
 
-pub returns : goal.returns
-returns c =
+pub returns-in-Err : goal.returns-in-Err
+returns-in-Err c =
     let a = c.args in
-    rw c.if-builds.false
-    (c.tell-2.ensures
-    ∙ ap (laid a.text.now 0) (reads-out a.bytes.now a.out.now _ _ _ _ c.fill.ensures c.read_out-r.result c.read_out-r.ensures.result_value c.read_out-r.ensures.out_after c.number-2.ensures c.place-2.ensures))
+    let is = sym (ap making.shown c.in-Err.is) ∙ c.build.ensures.result_value in
+    rw c.in-Build.is
+    (c.refused.ensures ∙ rw (c.number.ensures, c.place.ensures) (ap (with a.text.now) (builds_not a.bytes.now a.out.now _ _ c.fill.ensures c.in-Err.e is c.build.ensures.out_after)))
+
+pub returns-in-Ok-read_out : goal.returns-in-Ok-read_out
+returns-in-Ok-read_out c =
+    let a = c.args in
+    let is = sym (ap reading.shown c.in-Ok-read_out.is) ∙ c.read_out.ensures.result_value in
+    rw c.in-Out.is (c.succeeded-in-Ok-read_out.ensures ∙ ap (with a.text.now) (reads-out a.bytes.now a.out.now _ _ c.fill.ensures _ is c.read_out.ensures.out_after))
+
+pub returns-in-Err-read_out : goal.returns-in-Err-read_out
+returns-in-Err-read_out c =
+    let a = c.args in
+    let is = sym (ap reading.shown c.in-Err-read_out.is) ∙ c.read_out.ensures.result_value in
+    rw c.in-Out.is
+    (c.refused-in-Err-read_out.ensures
+    ∙ rw (c.number-in-Err-read_out.ensures, c.place-in-Err-read_out.ensures) (ap (with a.text.now) (reads-out_not a.bytes.now a.out.now _ _ c.fill.ensures c.in-Err-read_out.e is c.read_out.ensures.out_after)))

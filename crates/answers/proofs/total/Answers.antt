@@ -1,6 +1,6 @@
 -- `total` meets its contract: the words of the sum, and the line's end behind them; a sum's parts make the sum.
 use mathlib.Core.Path.{◌∙◌}
-use Rattle.text.proofs.Laws.{laid_next}
+use Rattle.text.proofs.Texts.{next}
 use Rattle.field.proofs.Parts.{whole-number}
 use Rattle.answers.specs.Lines.{total}
 use Rattle.answers.proofs.total.Goals as goal
@@ -8,5 +8,4 @@ use Rattle.answers.proofs.total.Goals as goal
 pub returns : goal.returns
 unfolding total
 returns c =
-    let a = c.args in
-    laid_next a.text.now 0 _ _ c.summed-n.ensures c.byte.ensures ∙ rw (c.u8sum.ensures, whole-number)
+    next _ _ _ c.summed.ensures c.byte.ensures ∙ rw (c.u8sum.ensures, whole-number)

@@ -2,27 +2,28 @@
 use Rattle.answers.proofs.Laws.{unhexed}
 use Rattle.answers.specs.Lines.{writing}
 use Rattle.talk.specs.Numbers.{number_in}
-use mathlib.Core.Path.{sym, ap, ◌∙◌}
+use Prim.Native.Nat.{min}
+use lib.ListN.{length, take}
+use lib.Seq.{length-take-le}
+use native.Mathlib.Omega.{arith}
+use mathlib.Core.Path.{◌≡◌, sym, ap, ◌∙◌}
 use Rattle.answers.proofs.write.Goals as goal
 
 pub returns-in_default : goal.returns-in_default
 unfolding writing
 returns-in_default c =
-    rw (ap (number_in _) (sym c.word.ensures) ∙ sym c.decimal.ensures ∙ c.in_default.is) c.what.ensures
+    rw (ap (number_in _) (sym c.word.ensures) ∙ sym c.decimal.ensures ∙ c.in_default.is) c.bad.ensures
 
-pub returns-in-Count : goal.returns-in-Count
+pub returns-in-Ok : goal.returns-in-Ok
 unfolding writing
-returns-in-Count c =
-    let q = sym c.count.ensures ∙ c.in-Count.is in
-    rw (ap (number_in _) (sym c.word.ensures) ∙ sym c.decimal.ensures ∙ c.in-Value.is, ← c.behind-digits.ensures, q, ← unhexed _ _ _ _ _ q c.unhex.ensures c.first.ensures)
-    c.lend.ensures
+returns-in-Ok c =
+    let q = sym c.count.ensures ∙ c.in-Ok.is in
+    let lent = c.args.lent.now in
+    let room : length (take c.min-len.result lent) ≡ min c.in-Some.room (length lent) = length-take-le c.min-len.result lent (omega arith) ∙ omega (arith, c.min-len.ensures) in
+    rw (ap (number_in _) (sym c.word.ensures) ∙ sym c.decimal.ensures ∙ c.in-Some.is, ← c.behind-digits.ensures, q, ← unhexed _ _ _ _ _ q c.unhex.ensures c.first.ensures, ← room)
+    c.carry_out.ensures
 
-pub returns-in-TooLong : goal.returns-in-TooLong
+pub returns-in-Err : goal.returns-in-Err
 unfolding writing
-returns-in-TooLong c =
-    rw (ap (number_in _) (sym c.word.ensures) ∙ sym c.decimal.ensures ∙ c.in-Value.is, ← c.behind-digits.ensures, sym c.count.ensures ∙ c.in-TooLong.is) c.too_long.ensures
-
-pub returns-in-Other : goal.returns-in-Other
-unfolding writing
-returns-in-Other c =
-    rw (ap (number_in _) (sym c.word.ensures) ∙ sym c.decimal.ensures ∙ c.in-Value.is, ← c.behind-digits.ensures, sym c.count.ensures ∙ c.in-Other.is) c.what-in-Other.ensures
+returns-in-Err c =
+    rw (ap (number_in _) (sym c.word.ensures) ∙ sym c.decimal.ensures ∙ c.in-Some.is, ← c.behind-digits.ensures, sym c.count.ensures ∙ c.in-Err.is) c.bad-in-Err.ensures

@@ -12,15 +12,15 @@ loop-at-init c = refl
 
 pub returns-in_default : goal.returns-in_default
 returns-in_default c =
-    let e = sym c.kind_of.ensures.result_value ∙ no_kind_lem c.kind_of.result c.in_default.not-As in
+    let e = sym c.kind_of.ensures.result_value ∙ no_kind_lem c.kind_of.result c.in_default.not-Ok in
     sym (holder-unknown _ _ _ _ c.loop-at-test.true e) ∙ c.loop-at.invariant
 
 pub overflow_add-end-in-loop-at : goal.overflow_add-end-in-loop-at
-overflow_add-end-in-loop-at c = omega (arith, body-short (meant_kind c.in-As.kind))
+overflow_add-end-in-loop-at c = omega (arith, body-short (meant_kind c.in-Ok.kind))
 
 pub returns-then-place-end : goal.returns-then-place-end
 returns-then-place-end c =
-    let e = sym c.kind_of.ensures.result_value ∙ ap named c.in-As.is in
+    let e = sym c.kind_of.ensures.result_value ∙ ap named c.in-Ok.is in
     sym (holder-next _ _ _ _ c.loop-at-test.true _ e ∙ rw (lt-ltb _ _ (rw c.body_len.ensures at c.if-place-end.true))) ∙ c.loop-at.invariant
 
 pub loop-at-smaller : goal.loop-at-smaller
@@ -29,7 +29,7 @@ loop-at-smaller c =
 
 pub loop-at-preserved : goal.loop-at-preserved
 loop-at-preserved c =
-    let e = sym c.kind_of.ensures.result_value ∙ ap named c.in-As.is in
+    let e = sym c.kind_of.ensures.result_value ∙ ap named c.in-Ok.is in
     let q = c.body_len.ensures in
     rw q (sym (holder-next _ _ _ _ c.loop-at-test.true _ e ∙ rw (le-ltb _ _ (rw q at c.if-place-end.false))) ∙ c.loop-at.invariant)
 

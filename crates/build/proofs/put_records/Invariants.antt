@@ -9,10 +9,9 @@ use Rattle.build.specs.Held.{Held}
 use Rattle.build.proofs.put_records.Given as goal
 
 abbrev pub invariant-loop-s : goal.invariant-loop-s
-invariant-loop-s l =
+invariant-loop-s g l =
     (length l.out ≡ length l.initial.out)
-    × (length l.marks ≡ length l.initial.marks)
-    × ((xs : List ℕ) (m : Meaning) → Held xs l.recipe (meant l.table) m l.initial.s l.initial.out l.initial.marks → Held xs l.recipe (meant l.table) m l.s l.out l.marks)
+    × ((xs : List ℕ) (m : Meaning) → Held xs l.recipe (meant l.table) m l.initial.s l.initial.out l.initial.marks.slots → Held xs l.recipe (meant l.table) m l.s l.out l.marks.slots)
 
 abbrev pub decreases-loop-s : goal.decreases-loop-s
-decreases-loop-s l = length l.recipe - l.s.at
+decreases-loop-s g l = length l.recipe - l.s.at

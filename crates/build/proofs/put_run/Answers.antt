@@ -17,9 +17,6 @@ overflow_add-len c = omega (arith, c.body_len-len.ensures, cell-small (meant_wid
 pub loop-at-init : goal.loop-at-init
 loop-at-init c = (refl, search rules, λ xs m ms h. h)
 
-pub returns-then-recipe-at : goal.returns-then-recipe-at
-returns-then-recipe-at c = let i = c.loop-at.invariant in (i.1, i.2)
-
 pub put_cell-sum-requires : goal.put_cell-sum-requires
 put_cell-sum-requires c =
     let l = c.loop-at in
@@ -29,8 +26,8 @@ put_cell-sum-requires c =
     let y = c.requires.1 in
     let s : State = record { at = l.at; end = a.s.end; latest = a.s.latest; sum = l.sum } in
     let h = held_at a.recipe.now a.s s a.out.now l.out ms y l.invariant.2 in
-    let z = target-exact a.s.latest.place a.s.latest.initiators a.s.latest.targets _ (low a.recipe.now hmat a.s a.out.now ms y) (omega (arith, c.struct_known-1.given)) (omega (arith, c.struct_known-1.given)) c.target_place-cells.ensures in
-    let e = c.if-recipe-at.false ∙ c.kind-kind.ensures in (
+    let z = target-exact a.s.latest.place a.s.latest.initiators a.s.latest.targets _ (low a.recipe.now hmat a.s a.out.now ms y) (search rules) (search rules) c.target_place-cells.ensures in
+    let e = c.if-recipe-at.true ∙ c.kind-kind.ensures in (
       cell-whole w y.start a.recipe.now y.meant s l.out ms h c.loop-at-test.true e,
       rw z (cell_in w y.start a.recipe.now y.meant s l.out ms h c.loop-at-test.true e),
     )
@@ -43,7 +40,7 @@ overflow_add-at c =
     let y = c.requires.1 in
     let s : State = record { at = l.at; end = a.s.end; latest = a.s.latest; sum = l.sum } in
     let h = held_at a.recipe.now a.s s a.out.now l.out ms y l.invariant.2 in
-    let w = cell-whole (meant_width a.width) y.start a.recipe.now y.meant s l.out ms h c.loop-at-test.true (c.if-recipe-at.false ∙ c.kind-kind.ensures) in
+    let w = cell-whole (meant_width a.width) y.start a.recipe.now y.meant s l.out ms h c.loop-at-test.true (c.if-recipe-at.true ∙ c.kind-kind.ensures) in
     omega (arith, w, c.body_len-len.ensures)
 
 pub loop-at-preserved : goal.loop-at-preserved
@@ -51,13 +48,10 @@ loop-at-preserved c =
     let l = c.loop-at in
     let a = c.args in
     let s : State = record { at = l.at; end = a.s.end; latest = a.s.latest; sum = l.sum } in
-    let z = target-exact a.s.latest.place a.s.latest.initiators a.s.latest.targets _ (low a.recipe.now hmat a.s a.out.now c.requires.0 c.requires.1) (omega (arith, c.struct_known-1.given)) (omega (arith, c.struct_known-1.given)) c.target_place-cells.ensures in
+    let z = target-exact a.s.latest.place a.s.latest.initiators a.s.latest.targets _ (low a.recipe.now hmat a.s a.out.now c.requires.0 c.requires.1) (search rules) (search rules) c.target_place-cells.ensures in
     let q = c.put_cell-sum in (
       search rules,
       omega (arith, l.invariant.1),
       λ xs m ms h. rw c.body_len-len.ensures
-          (cell-goes (meant_width a.width) xs a.recipe.now m s l.out ms (l.invariant.2 xs m ms h) c.loop-at-test.true (c.if-recipe-at.false ∙ c.kind-kind.ensures) _ _ (rw z at q.ensures.out_after) (rw z at q.ensures.value_value)),
+          (cell-goes (meant_width a.width) xs a.recipe.now m s l.out ms (l.invariant.2 xs m ms h) c.loop-at-test.true (c.if-recipe-at.true ∙ c.kind-kind.ensures) _ _ (rw z at q.ensures.out_after) (rw z at q.ensures.value_value)),
     )
-
-pub returns : goal.returns
-returns c = let i = c.loop-at.invariant in (i.1, i.2)

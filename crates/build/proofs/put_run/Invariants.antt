@@ -10,7 +10,7 @@ abbrev pub invariant-loop-at : goal.invariant-loop-at
 invariant-loop-at l =
     (length l.out ≡ length l.initial.out)
     × (l.initial.at ≤ l.at)
-    × Goes l.recipe hmat (record { at = l.initial.at; end = l.end; latest = l.latest; sum = l.initial.sum }) l.initial.out (record { at = l.at; end = l.end; latest = l.latest; sum = l.sum }) l.out
+    × Goes l.recipe hmat (record { at = l.initial.at; end = l.s.end; latest = l.s.latest; sum = l.initial.sum }) l.initial.out (record { at = l.at; end = l.s.end; latest = l.s.latest; sum = l.sum }) l.out
 
 abbrev pub decreases-loop-at : goal.decreases-loop-at
 decreases-loop-at l = length l.recipe - l.at

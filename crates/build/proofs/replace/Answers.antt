@@ -24,4 +24,4 @@ returns c =
     let k = a.at + 2 - a.at in
     let low : at (take k (drop a.at out)) 0 ≡ at out a.at = rw (at-window out a.at k 0 (omega arith), add-zero) in
     let high : at (take k (drop a.at out)) 1 ≡ at out (a.at + 1) = at-window out a.at k 1 (omega arith) in
-    let w = over-window out _ (le 2 a.value) a.at k (omega (arith, c.requires)) (inl (omega (arith, length-le 2 a.value))) c.put_u16.ensures in record { out_after = w; value_value = sum-replaced out a.at a.value a.sum.value _ _ _ _ c.requires (search rules) (rw low at c.sub.ensures) (rw high at c.sub-old.ensures) c.add.ensures c.add-2.ensures }
+    let w = over-window out _ (le 2 a.value) a.at k (omega (arith, c.requires)) (inl (omega (arith, length-le 2 a.value))) c.put.ensures in record { out_after = w; value_value = sum-replaced out a.at a.value a.sum.value _ _ _ _ c.requires (search rules) (rw low at c.sub.ensures) (rw high at c.sub-old.ensures) (rw c.to_le_bytes.ensures at c.add.ensures) (rw c.to_le_bytes.ensures at c.add-2.ensures) }

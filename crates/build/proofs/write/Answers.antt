@@ -19,4 +19,4 @@ returns c =
     let m = c.requires.meant in
     let put = c.put_all-last in
     let (ms, h) = put.ensures.1 a.out.now m (c.start-first.ensures.1 m c.requires.means) in
-    ended a.out.now a.recipe.now (meant a.table) m put.result put.new.out ms c.set_length.new.out c.set_checksum.new.out c.value-sum.result h put.ensures.0 c.requires.means c.set_length.ensures c.value-sum.ensures c.set_checksum.ensures
+    ended a.out.now a.recipe.now (meant a.outline.table) m put.result put.new.out ms c.set_length.new.out c.set_checksum.new.out c.value-sum.result h put.ensures.0 c.requires.means c.set_length.ensures c.value-sum.ensures c.set_checksum.ensures

@@ -1,21 +1,19 @@
--- The answers that the search does not find.
-use Rattle.std.proofs.Common.{◌+◌, sym, ◌∙◌, add-zero, arith, length-set, rules}
-use native.Mathlib.Nat.{sub-zero}
-use lib.ListN.{length-replicate}
-use Rattle.laws.proofs.Bytes.{replicate-turn, over-turn, over_none}
+-- `fill` meets its contract: what fits is written over the part that it fits.
+use Rattle.std.proofs.Common.{◌≡◌, ◌+◌, ◌-◌, ◌≤◌, min, ◌∙◌, length, take, drop, replicate, arith, length-take, length-drop}
+use Rattle.std.proofs.lemmas.List.{length-replicate, take-replicate}
+use Rattle.field.proofs.Laid.{laid, fits}
 use Rattle.field.proofs.fill.Goals as goal
-
-pub loop-i-init : goal.loop-i-init
-loop-i-init c = (search rules, search rules, rw (add-zero, sub-zero))
-
-pub loop-i-preserved : goal.loop-i-preserved
-loop-i-preserved c =
-    let l = c.loop-i in
-    let s = c.args in
-    (omega arith, simp length-set (omega arith), over-turn l.out s.at l.i _ _ _ (replicate-turn s.n l.i s.v (omega arith)) ∙ l.invariant.2)
 
 pub returns : goal.returns
 returns c =
-    let l = c.loop-i in
-    let s = c.args in
-    sym (over_none l.out (s.at + l.i) _ (rw length-replicate (omega arith))) ∙ l.invariant.2
+    let a = c.args in
+    let p = c.min-at.result in
+    let n = c.min-n.result in
+    let bs = c.args.out.now in
+    let k : length (take (p + n - p) (drop p bs)) ≡ n = simp (length-take, length-drop) (omega arith) in
+    let few : n ≤ a.n = omega arith in
+    let t = take-replicate n a.n a.v few in
+    let m : length (replicate n a.v) ≡ n = length-replicate n a.v in
+    let e : c.fill.new.self ≡ replicate n a.v = c.fill.ensures.after (λ y e. e) ∙ rw k in
+    let f : n ≡ min (length (replicate a.n a.v)) (length bs - p) = rw length-replicate c.min-n.ensures in
+    rw e (laid bs p (p + n - p) (replicate n a.v) (rw m (omega arith)) (rw m (omega arith)) ∙ (rw (← t) (fits bs a.at p n (replicate a.n a.v) c.min-at.ensures f)))

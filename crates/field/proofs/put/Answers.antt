@@ -1,19 +1,14 @@
--- The answers that the search does not find.
-use Rattle.std.proofs.Common.{◌+◌, sym, ◌∙◌, add-zero, arith, length-set, rules}
-use native.Mathlib.Nat.{sub-zero}
-use Rattle.laws.proofs.Bytes.{length-le, le-turn, over-turn, over_none}
+-- `put` meets its contract: where the whole number has room, it is written there.
+use Rattle.std.proofs.Common.{arith}
+use Rattle.format.specs.Bytes.{le}
+use Rattle.laws.proofs.Bytes.{length-le}
+use Rattle.field.proofs.Laid.{laid}
 use Rattle.field.proofs.put.Goals as goal
 
-pub loop-i-init : goal.loop-i-init
-loop-i-init c = (search rules, search rules, rw (add-zero, sub-zero))
-
-pub loop-i-preserved : goal.loop-i-preserved
-loop-i-preserved c =
-    let l = c.loop-i in
-    let s = c.args in
-    (omega arith, simp length-set (omega arith), over-turn l.out s.at l.i _ _ _ (le-turn s.w l.i l.rest (omega arith)) ∙ l.invariant.2)
-
-pub returns : goal.returns
-returns c =
-    let l = c.loop-i in
-    let s = c.args in record { out_after = sym (over_none l.out (s.at + l.i) _ (rw length-le (omega arith))) ∙ l.invariant.2; value = search rules }
+pub returns-then-WIDTH-out : goal.returns-then-WIDTH-out
+returns-then-WIDTH-out g c =
+    let v = c.args.v in
+    let w = g.T.Number.WIDTH in
+    let n = g.T.Number.number v in
+    let l = length-le w n in
+    rw c.write.ensures (laid c.args.out.now c.args.at _ (le w n) (rw l (omega arith)) (rw l (omega arith)))

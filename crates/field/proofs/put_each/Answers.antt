@@ -1,21 +1,29 @@
 -- The answers that the search does not find.
-use Rattle.std.proofs.Common.{sym, ◌∙◌, arith}
-use Rattle.laws.proofs.Bytes.{length_over, join-turn, join-end}
+use Rattle.std.proofs.Common.{◌≡◌, ◌-◌, min, sym, ◌∙◌, arith, length, [], inl, inr}
+use Rattle.format.specs.Bytes.{le, over, join}
+use Rattle.laws.proofs.Bytes.{length_over, length-le, over-behind, over_none, join-none}
 use Rattle.field.proofs.put_each.Goals as goal
 
-pub loop-i-preserved : goal.loop-i-preserved
-loop-i-preserved c =
-    let l = c.loop-i in
-    let s = c.args in
-    let q = c.put-p in (
+pub loop-w-preserved : goal.loop-w-preserved
+unfolding join
+loop-w-preserved c =
+    let l = c.loop-w in
+    let q = c.put_low-p in
+    let h = c.in-Some.ensures.steps in
+    let w = c.in-Some.field-0-0.now in
+    let v = c.in-Some.field-0-1.now in
+    let e : min q.result (length l.out - l.p) ≡ min (length (le w v)) (length l.out - l.p) = rw length-le (omega (arith, q.ensures.value)) in
+    let i = rw (h.0, h.1) at l.invariant.2 in (
       omega arith,
-      omega arith,
-      rw (q.ensures.out_after, length_over) l.invariant.2,
-      join-turn l.out s.ws.now s.vs.now _ l.p l.i _ (omega arith) (omega arith) q.ensures.out_after q.ensures.value ∙ l.invariant.3,
+      rw (q.ensures.out_after, length_over) l.invariant.1,
+      rw q.ensures.out_after (over-behind l.out l.p (le w v) _ q.result e ∙ i),
     )
 
 pub returns : goal.returns
 returns c =
-    let l = c.loop-i in
-    let s = c.args in
-    sym (join-end l.out s.ws.now s.vs.now l.p l.i (omega arith)) ∙ l.invariant.3
+    let l = c.loop-w in
+    let a = l.w-iterator.a.rest.now in
+    let b = l.w-iterator.b.rest.now in
+    let z : min (length b) (length a) ≡ 0 = elim c.in-None.ensures.steps [ inl x ↦ omega (arith, x.1.0) | inr x ↦ omega (arith, x.1.0) ] in
+    let n : over l.out l.p (join a b) ≡ l.out = rw (join-none a b z) (over_none l.out l.p [] (omega arith)) in
+    sym n ∙ l.invariant.2

@@ -1,22 +1,36 @@
 -- `signed` meets its contract: the first four bytes against each signature.
+use Rattle.frames.proofs.Heads.{starts-same}
 use Rattle.frames.proofs.signed.Goals as goal
 
-pub returns-then-same : goal.returns-then-same
-returns-then-same c =
-    rw (← c.first-name.ensures, ← c.same.ensures, c.if-same.true)
+pub returns-then-starts_with : goal.returns-then-starts_with
+returns-then-starts_with c =
+    rw (← starts-same _ _, ← c.starts_with.ensures.value, c.if-starts_with.true)
 
-pub returns-then-same-2 : goal.returns-then-same-2
-returns-then-same-2 c =
-    rw (← c.first-name.ensures, ← c.same.ensures, c.if-same.false, ← c.same-2.ensures, c.if-same-2.true)
+pub returns-then-starts_with-2 : goal.returns-then-starts_with-2
+returns-then-starts_with-2 c =
+    let i = c.starts_with.ensures.value in
+    let j = c.starts_with-else-starts_with.ensures.value in
+    rw (← starts-same _ _, ← i, c.if-starts_with.false, ← starts-same _ _, ← j, c.if-starts_with-2.true)
 
-pub returns-then-same-3 : goal.returns-then-same-3
-returns-then-same-3 c =
-    rw (← c.first-name.ensures, ← c.same.ensures, c.if-same.false, ← c.same-2.ensures, c.if-same-2.false, ← c.same-3.ensures, c.if-same-3.true)
+pub returns-then-starts_with-3 : goal.returns-then-starts_with-3
+returns-then-starts_with-3 c =
+    let i = c.starts_with.ensures.value in
+    let j = c.starts_with-else-starts_with.ensures.value in
+    let k = c.starts_with-else-starts_with-2.ensures.value in
+    rw (← starts-same _ _, ← i, c.if-starts_with.false, ← starts-same _ _, ← j, c.if-starts_with-2.false, ← starts-same _ _, ← k, c.if-starts_with-3.true)
 
-pub returns-then-same-4 : goal.returns-then-same-4
-returns-then-same-4 c =
-    rw (← c.first-name.ensures, ← c.same.ensures, c.if-same.false, ← c.same-2.ensures, c.if-same-2.false, ← c.same-3.ensures, c.if-same-3.false, ← c.same-4.ensures, c.if-same-4.true)
+pub returns-then-starts_with-4 : goal.returns-then-starts_with-4
+returns-then-starts_with-4 c =
+    let i = c.starts_with.ensures.value in
+    let j = c.starts_with-else-starts_with.ensures.value in
+    let k = c.starts_with-else-starts_with-2.ensures.value in
+    let l = c.starts_with-else-starts_with-3.ensures.value in
+    rw (← starts-same _ _, ← i, c.if-starts_with.false, ← starts-same _ _, ← j, c.if-starts_with-2.false, ← starts-same _ _, ← k, c.if-starts_with-3.false, ← starts-same _ _, ← l, c.if-starts_with-4.true)
 
-pub returns : goal.returns
-returns c =
-    rw (← c.first-name.ensures, ← c.same.ensures, c.if-same.false, ← c.same-2.ensures, c.if-same-2.false, ← c.same-3.ensures, c.if-same-3.false, ← c.same-4.ensures, c.if-same-4.false)
+pub returns-else-starts_with-4 : goal.returns-else-starts_with-4
+returns-else-starts_with-4 c =
+    let i = c.starts_with.ensures.value in
+    let j = c.starts_with-else-starts_with.ensures.value in
+    let k = c.starts_with-else-starts_with-2.ensures.value in
+    let l = c.starts_with-else-starts_with-3.ensures.value in
+    rw (← starts-same _ _, ← i, c.if-starts_with.false, ← starts-same _ _, ← j, c.if-starts_with-2.false, ← starts-same _ _, ← k, c.if-starts_with-3.false, ← starts-same _ _, ← l, c.if-starts_with-4.false)

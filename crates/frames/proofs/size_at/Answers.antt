@@ -24,7 +24,7 @@ pub returns-in-Srat : goal.returns-in-Srat
 returns-in-Srat c = rw (c.in-Srat.is, part-drop) (value-byte _ _)
 
 pub returns-in-Hmat : goal.returns-in-Hmat
-returns-in-Hmat c = rw (c.in-Hmat.is, part-drop) c.get_u32.ensures
+returns-in-Hmat c = rw (c.in-Hmat.is, part-drop) c.get.ensures
 
 pub returns-in-Cedt : goal.returns-in-Cedt
-returns-in-Cedt c = rw (c.in-Cedt.is, part-drop) c.get_u16.ensures
+returns-in-Cedt c = rw (c.in-Cedt.is, part-drop) c.get-in-Cedt.ensures

@@ -2,13 +2,13 @@
 use Rattle.frames.proofs.size_in.Goals as goal
 
 pub returns-in-Pptt : goal.returns-in-Pptt
-returns-in-Pptt c = rw c.in-Pptt.is c.get_u8.ensures
+returns-in-Pptt c = rw c.in-Pptt.is c.get.ensures
 
 pub returns-in-Srat : goal.returns-in-Srat
-returns-in-Srat c = rw c.in-Srat.is c.get_u8-in-Srat.ensures
+returns-in-Srat c = rw c.in-Srat.is c.get-in-Srat.ensures
 
 pub returns-in-Hmat : goal.returns-in-Hmat
-returns-in-Hmat c = rw c.in-Hmat.is c.get_u32.ensures
+returns-in-Hmat c = rw c.in-Hmat.is c.get-in-Hmat.ensures
 
 pub returns-in-Cedt : goal.returns-in-Cedt
-returns-in-Cedt c = rw c.in-Cedt.is c.get_u16.ensures
+returns-in-Cedt c = rw c.in-Cedt.is c.get-in-Cedt.ensures

@@ -2,16 +2,11 @@
 use mathlib.Core.Path.{◌∙◌}
 use Rattle.format.specs.Listing.{first_line}
 use Rattle.laws.proofs.Bytes.{value-byte}
-use Rattle.text.proofs.Laws.{laid-behind}
+use Rattle.text.proofs.Texts.{next}
 use Rattle.lists.proofs.first_line.Goals as goal
 
 pub returns : goal.returns
 unfolding first_line
 returns c =
-    let a = c.args in
-    c.byte.ensures
-    ∙ laid-behind _ _ _ c.spaced-m-3.ensures _
-    ∙ laid-behind _ _ _ c.spaced-m-2.ensures _
-    ∙ laid-behind _ _ _ c.spaced-m.ensures _
-    ∙ laid-behind a.out.now 0 _ c.bytes-m.ensures _
-    ∙ rw (c.first.ensures, c.revision_in.ensures, c.length_in.ensures, ← value-byte a.table.now 8)
+    next _ _ _ c.bytes.ensures (next _ _ _ c.spaced.ensures (next _ _ _ c.spaced-2.ensures (next _ _ _ c.spaced-3.ensures c.byte.ensures)))
+    ∙ rw (c.first.ensures, c.revision_in.ensures, c.length_in.ensures, ← value-byte c.args.table.now 8)

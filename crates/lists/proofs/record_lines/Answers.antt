@@ -1,37 +1,36 @@
 -- The answers that the search does not find.
-use mathlib.Core.Path.{refl, ◌∙◌}
+use Prim.Native.Nat.{◌+◌, ◌-◌}
+use mathlib.Core.Path.{◌≡◌, ◌∙◌, sym}
 use native.Mathlib.Omega.{arith}
 use Rattle.format.specs.Out.{every}
 use Rattle.read.proofs.Listing.{first-low, body-room, shown-next}
-use Rattle.text.proofs.Laws.{laid-low, laid-behind, laid-turn, laid_end}
+use Rattle.text.proofs.Texts.{turn, end}
 use Rattle.lists.proofs.Turns.{lines-turn, lines_end}
 use Rattle.lists.proofs.record_lines.Goals as goal
 
-pub loop-left-init : goal.loop-left-init
-loop-left-init c =
+pub loop-init : goal.loop-init
+loop-init c =
     let a = c.args in
     let p = c.first_place-place.ensures in
-    (omega (arith, p, first-low a.table.now), refl, laid-low _ _ _ c.bytes-m.ensures, rw p)
+    let e : a.count - 0 ≡ a.count = omega arith in
+    (omega (arith, p, first-low a.table.now), rw (e, p))
 
 pub overflow_add-place : goal.overflow_add-place
 overflow_add-place c =
     let b = c.args.table.now in
-    omega (arith, c.well_formed.0, shown-next b every c.loop-left.place c.record_at-s.result (c.record_at-s.ensures 0), body-room b c.loop-left.place)
+    omega (arith, c.well_formed.0, shown-next b every c.loop.place c.record_at-s.result (c.record_at-s.ensures 0), body-room b c.loop.place)
 
-pub loop-left-preserved : goal.loop-left-preserved
-loop-left-preserved c =
-    let e = c.record_line-m.ensures in
+pub loop-preserved : goal.loop-preserved
+loop-preserved c =
     let b = c.args.table.now in
-    let s = c.record_at-s.ensures 0 in (
-      omega (arith, shown-next b every c.loop-left.place c.record_at-s.result s, body-room b c.loop-left.place),
-      omega arith,
-      laid-low _ _ _ e,
-      laid-turn _ _ _ e _ _ (lines-turn b c.loop-left.left c.loop-left.place c.record_at-s.result c.loop-left-test.true s) ∙ c.loop-left.invariant.3,
+    let l = c.loop in
+    let s = c.record_at-s.ensures 0 in
+    let e : c.args.count - (l.counter + 1) ≡ c.args.count - l.counter - 1 = omega arith in (
+      omega (arith, shown-next b every l.place c.record_at-s.result s, body-room b l.place),
+      rw e (turn _ _ _ c.record_line.ensures (lines-turn b (c.args.count - l.counter) l.place c.record_at-s.result (omega arith) s) ∙ l.invariant.1),
     )
 
 pub returns : goal.returns
 returns c =
-    let a = c.args in
-    laid_end _ _ _ c.loop-left.invariant.2 (lines_end a.table.now c.loop-left.left c.loop-left.place c.loop-left-test.false)
-    ∙ c.loop-left.invariant.3
-    ∙ laid-behind a.out.now a.n _ c.bytes-m.ensures _
+    let l = c.loop in
+    sym (end l.text (lines_end c.args.table.now (c.args.count - l.counter) l.place (omega arith))) ∙ l.invariant.1

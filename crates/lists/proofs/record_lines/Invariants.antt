@@ -1,19 +1,12 @@
--- `lists::record_lines` meets its contract. The invariant: the lines still to come, laid behind those that have come, give the answer.
-use mathlib.Core.Path.{◌≡◌}
-use Prim.Native.Nat.{◌≤◌, max}
-use lib.ListN.{length}
+-- `lists::record_lines` meets its contract. The invariant: the lines still to come, behind those that have come, give the answer.
+use Rattle.std.proofs.Common.{◌≡◌, ◌-◌, ◌≤◌, max, length}
 use Rattle.format.specs.Out.{every}
 use Rattle.format.specs.Listing.{record_lines}
 use Rattle.read.specs.Places.{first_place, seen_from}
-use Rattle.text.specs.Text.{laid}
+use Rattle.text.specs.Text.{with}
 use Rattle.lists.proofs.record_lines.Given as goal
 
-abbrev pub invariant-loop-left : goal.invariant-loop-left
-invariant-loop-left l =
+abbrev pub invariant-loop : goal.invariant-loop
+invariant-loop l =
     (l.place ≤ max 48 (length l.table))
-    × (length l.out ≡ length l.initial.out)
-    × (l.m ≤ length l.out)
-    × (laid l.out l.m (record_lines (seen_from l.table every l.left l.place)) ≡ laid l.initial.out l.initial.m (record_lines (seen_from l.table every l.count (first_place l.table))))
-
-abbrev pub decreases-loop-left : goal.decreases-loop-left
-decreases-loop-left l = l.left
+    × (with l.text (record_lines (seen_from l.table every (l.count - l.counter) l.place)) ≡ with l.initial.text (record_lines (seen_from l.table every l.count (first_place l.table))))

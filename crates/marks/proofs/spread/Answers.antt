@@ -1,56 +1,28 @@
--- The answers that the search does not find.
-use mathlib.Core.Path.{◌≡◌, refl, sym, ◌∙◌}
-use Prim.Native.Nat.{ℕ, zero, suc, ◌+◌, ◌/◌, ◌^◌, ◌≤◌, ◌<◌}
+-- The answers that the search does not find: a turn tries the shift, which is the answer or not.
+use mathlib.Core.Path.{◌≡◌, sym, ◌∙◌}
+use Prim.Native.Nat.{ℕ, suc, ◌+◌, ◌-◌, ◌/◌, ◌^◌, ◌<◌}
 use native.Mathlib.Numerals.{add-one}
 use native.Mathlib.Omega.{arith}
+use lib.Dec.{ltb}
 use borrow.Author.Tests.{le-ltb, lt-ltb}
+use Rattle.format.specs.Bytes.{pick}
 use Rattle.marks.specs.Marks.{spread_of}
 use Rattle.marks.proofs.spread.Goals as goal
 
--- a turn: the shift is tried, and is the answer or not
-found : (left k n count : ℕ) → n / 2 ^ k < count → left + k ≡ 63 → k < 63 → spread_of left k n count ≡ k
+turn : (k n count : ℕ) → k < 63 → spread_of (63 - k) k n count ≡ pick (ltb (n / 2 ^ k) count) k (spread_of (63 - (k + 1)) (k + 1) n count)
 unfolding spread_of
-found zero k n count l e m = refl
-found (suc left) k n count l e m = rw (lt-ltb _ _ l)
-
-next : (left k n count : ℕ) → count ≤ n / 2 ^ k → left + k ≡ 63 → k < 63
-    → (more : ℕ) × (more + (k + 1) ≡ 63) × (spread_of left k n count ≡ spread_of more (k + 1) n count)
-unfolding spread_of
-next zero k n count l e m = absurd (omega arith)
-next (suc left) k n count l e m = (left, omega arith, rw (le-ltb _ _ l, add-one))
-
-last : (left k n count : ℕ) → left + k ≡ 63 → 63 ≤ k → spread_of left k n count ≡ k
-unfolding spread_of
-last zero k n count e m = refl
-last (suc left) k n count e m = absurd (omega arith)
-
-pub loop-shift-init : goal.loop-shift-init
-loop-shift-init c = (63, refl, rw c.last_of-last.ensures)
-
-pub overflow_cast-shift : goal.overflow_cast-shift
-overflow_cast-shift c = omega arith
-
-pub overflow_shr-last : goal.overflow_shr-last
-overflow_shr-last c = omega arith
+turn k n count l =
+    let e : 63 - k ≡ suc (63 - (k + 1)) = omega arith in
+    rw (e, add-one)
 
 pub returns-then-last-shift : goal.returns-then-last-shift
-returns-then-last-shift c =
-    let (left, e, q) = c.loop-shift.invariant in
-    sym (q ∙ found left _ _ _ c.if-last-shift.true e c.loop-shift-test.true)
-
-pub overflow_add-shift : goal.overflow_add-shift
-overflow_add-shift c = omega arith
-
-pub loop-shift-smaller : goal.loop-shift-smaller
-loop-shift-smaller c = omega arith
+returns-then-last-shift c = sym (c.loop-shift.invariant ∙ rw (turn _ _ _ c.loop-shift-test.true, lt-ltb _ _ c.if-last-shift.true))
 
 pub loop-shift-preserved : goal.loop-shift-preserved
-loop-shift-preserved c =
-    let (left, e, q) = c.loop-shift.invariant in
-    let (more, f, r) = next left _ _ _ c.if-last-shift.false e c.loop-shift-test.true in
-    (more, f, q ∙ r)
+loop-shift-preserved c = c.loop-shift.invariant ∙ rw (turn _ _ _ c.loop-shift-test.true, le-ltb _ _ c.if-last-shift.false)
 
 pub returns : goal.returns
+unfolding spread_of
 returns c =
-    let (left, e, q) = c.loop-shift.invariant in
-    sym (q ∙ last left _ _ _ e c.loop-shift-test.false)
+    let e : c.loop-shift.shift ≡ 63 = omega arith in
+    sym (c.loop-shift.invariant ∙ rw e)

@@ -5,5 +5,5 @@ use native.Mathlib.Omega.{arith}
 use Rattle.laws.proofs.Bytes.{over_none}
 use Rattle.numbers.proofs.put_fields.Goals as goal
 
-pub returns-in-Unknown : goal.returns-in-Unknown
-returns-in-Unknown c = rw c.in-Unknown.is (sym (over_none c.args.answer.now c.args.at [] (omega arith)))
+pub returns-in_default : goal.returns-in_default
+returns-in_default c = rw c.in_default.is (sym (over_none c.args.answer.now c.args.at [] (omega arith)))

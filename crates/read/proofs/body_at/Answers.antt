@@ -2,9 +2,9 @@
 use mathlib.Core.Path.{◌∙◌}
 use Rattle.read.proofs.body_at.Goals as goal
 
-pub returns-in-Table : goal.returns-in-Table
-returns-in-Table c =
-    rw (← c.signed.ensures, c.in-Table.is) (c.record_in.ensures ∙ rw (c.rest.ensures, c.own.ensures))
+pub returns-in-Some : goal.returns-in-Some
+returns-in-Some c =
+    rw (← c.signed.ensures, c.in-Some.is) (c.record_in.ensures ∙ rw (c.rest.ensures, c.own.ensures))
 
-pub returns-in-Other : goal.returns-in-Other
-returns-in-Other c = rw (← c.signed.ensures, c.in-Other.is)
+pub returns-in-None : goal.returns-in-None
+returns-in-None c = rw (← c.signed.ensures, c.in-None.is)

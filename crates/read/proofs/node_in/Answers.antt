@@ -1,7 +1,7 @@
 -- `node_in` meets its contract: of each row the node that its type reads.
 use mathlib.Core.Path.{refl, ◌∙◌}
 use Rattle.format.specs.Row.{caches, memories, initiators, old_rintcs, domains, matrices, sides, bridges, windows, xors, rintcs, form_in}
-use Rattle.format.specs.Read.{shown, fields_of}
+use Rattle.format.specs.Read.{shown}
 use Rattle.pptt.specs.Cache.{cache_node}
 use Rattle.srat.specs.Srat.{memory_node, initiator_node, rintc_node, old_rintc_node}
 use Rattle.hmat.specs.Widths.{meant_width}
@@ -58,7 +58,3 @@ returns-in-Xors c = rw c.in-Xors.is (refl, shown-maths c.get-in-Xors.result _ c.
 pub returns-in-Rintcs : goal.returns-in-Rintcs
 unfolding form_in shown
 returns-in-Rintcs c = rw c.in-Rintcs.is (refl, fields-shown rintcs _ (rintc_node c.get-in-Rintcs.result) c.get-in-Rintcs.ensures)
-
-pub returns-in-Unknown : goal.returns-in-Unknown
-unfolding fields_of
-returns-in-Unknown c = rw c.in-Unknown.is (refl, refl)

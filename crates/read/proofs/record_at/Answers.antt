@@ -4,14 +4,14 @@ use Rattle.format.specs.Read.{fields_of, reading_of}
 use Rattle.read.proofs.Listing.{seen-signed, seen-unsigned}
 use Rattle.read.proofs.record_at.Goals as goal
 
-pub returns-in-Table : goal.returns-in-Table
-returns-in-Table c count =
+pub returns-in-Some : goal.returns-in-Some
+returns-in-Some c count =
     let a = c.args in
-    let seen = seen-signed a.table.now a.mask a.place _ _ _ (rw c.in-Table.is at c.signed.ensures) c.revision_in.ensures c.body_at-body.ensures in
+    let seen = seen-signed a.table.now a.mask a.place _ _ _ (rw c.in-Some.is at c.signed.ensures) c.revision_in.ensures c.body_at-body.ensures in
     c.show.ensures count ∙ ap (reading_of count) seen
 
-pub returns-in-Other : goal.returns-in-Other
+pub returns-in-None : goal.returns-in-None
 unfolding fields_of
-returns-in-Other c count =
+returns-in-None c count =
     let a = c.args in
-    ap (reading_of count) (seen-unsigned a.table.now a.mask a.place _ (rw c.in-Other.is at c.signed.ensures) c.body_at-body.ensures)
+    ap (reading_of count) (seen-unsigned a.table.now a.mask a.place _ (rw c.in-None.is at c.signed.ensures) c.body_at-body.ensures)

@@ -1,4 +1,5 @@
 -- `put_long` meets its contract: before the first record no mark is kept.
+use native.Mathlib.Omega.{arith}
 use Rattle.header.specs.Header.{meant}
 use Rattle.marks.proofs.Laws.{none_kept}
 use Rattle.frames.specs.Frames.{Passed}
@@ -7,4 +8,4 @@ use Rattle.readout.proofs.+put_long.Goals as goal
 pub put_records-requires : goal.put_records-requires
 put_records-requires t c =
     let s = c.args in
-    (none_kept (Passed (meant s.t) s.c.now) 65536, c.requires)
+    (omega arith, (omega arith, (rw c.none-most.ensures.slots (none_kept (Passed (meant s.t) s.c.now) 65536), c.requires)))

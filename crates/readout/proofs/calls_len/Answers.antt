@@ -11,7 +11,7 @@ use Rattle.format.specs.Kind.{Cache, Memory, Rintc, Domain, Bridge, body}
 use Rattle.format.specs.Normal.{calls}
 use Rattle.laws.proofs.Fields.{length-call}
 use Rattle.hmat.specs.Widths.{meant_width}
-use Rattle.rows.specs.Rows.{row_meant}
+use Rattle.rows.specs.Rows.{meant_row}
 use Rattle.read.proofs.Refs.{plain_row}
 use Rattle.readout.specs.Places.{calls_in}
 use Rattle.readout.proofs.Records.{calls_at, length-processor, node-short, node-length, initiator-one}
@@ -31,7 +31,7 @@ pub put_matrix-requires : goal.put_matrix-requires
 put_matrix-requires c =
     let w = c.in-Matrices.field-0 in
     let i = c.in-Matrices.is in
-    let e : row_meant c.args.row ≡ some (matrices (meant_width w)) = rw i in
+    let e : some (meant_row c.args.row) ≡ some (matrices (meant_width w)) = rw i in
     (c.requires.initiators (meant_width w) e, c.requires.targets (meant_width w) e, omega arith)
 
 pub returns-in-Processors : goal.returns-in-Processors
@@ -81,6 +81,3 @@ returns-in-Xors c = rw c.in-Xors.is (λ g. omega (arith, (c.put_maths.ensures.0 
 pub returns-in-OldRintcs : goal.returns-in-OldRintcs
 unfolding form_in calls_in calls
 returns-in-OldRintcs c = rw c.in-OldRintcs.is (λ g. refl, omega arith)
-
-pub returns-in-Unknown : goal.returns-in-Unknown
-returns-in-Unknown c = rw c.in-Unknown.is (λ g. refl, omega arith)

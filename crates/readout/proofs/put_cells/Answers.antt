@@ -1,53 +1,49 @@
--- The answers that the search does not find.
-use mathlib.Core.Path.{◌≡◌, sym, ap, ◌∙◌}
-use mathlib.Core.List.{[], ◌∷◌}
-use Prim.Native.Nat.{ℕ, ◌-◌}
-use native.Mathlib.Nat.{zero-div, zero-mod, div-le_self, mod-le}
+-- `put_cells` meets its contract: row by row.
+use mathlib.Core.Path.{◌≡◌}
+use Prim.Native.Nat.{ℕ, ◌*◌, ◌≤◌, ◌<◌}
 use native.Mathlib.Omega.{arith}
-use Rattle.format.specs.Layout.{as_is, fld, width}
+use native.Mathlib.Nat.{zero-mul, mul-le-mul}
+use Rattle.format.specs.Form.{most}
+use Rattle.format.specs.Layout.{width}
 use Rattle.format.specs.Kind.{body}
-use Rattle.readout.proofs.Lists.{all-coming, laid-length, come-set, set-laid}
-use Rattle.readout.proofs.Records.{next-cell}
+use Rattle.hmat.specs.Widths.{meant_width}
+use Rattle.readout.specs.Laid.{up_to}
+use Rattle.readout.proofs.Lists.{none-laid, rows-next, rows-short, rows-laid}
 use Rattle.readout.proofs.put_cells.Goals as goal
 
-pub put_cell-p-requires : goal.put_cell-p-requires
+pub loop-row-init : goal.loop-row-init
+unfolding up_to
+loop-row-init c = rw zero-mul (none-laid _ _)
+
+-- what stands before a row is a part of the matrix
+few : (r i t : ℕ) → r < i → i ≤ most → t ≤ most → r * t ≤ most * most
+few r i t l m n = let h : r ≤ most = omega arith in mul-le-mul h n
+
+pub overflow_mul-row : goal.overflow_mul-row
+overflow_mul-row c = omega (arith, few _ _ _ c.loop-row-test.true c.requires.1 c.requires.2)
+
+pub overflow_mul-row-in-loop-row : goal.overflow_mul-row-in-loop-row
+overflow_mul-row-in-loop-row c = omega (arith, few _ _ _ c.loop-row-test.true c.requires.1 c.requires.2)
+
+pub overflow_add-start : goal.overflow_add-start
+overflow_add-start c = omega (arith, few _ _ _ c.loop-row-test.true c.requires.1 c.requires.2)
+
+pub put_row-p-requires : goal.put_row-p-requires
 unfolding width body
-put_cell-p-requires c = omega arith
+put_row-p-requires c =
+    let a = c.args in
+    let f = few _ _ _ c.loop-row-test.true c.requires.1 c.requires.2 in
+    (omega (arith, f), omega arith, omega (arith, f, c.loop-row.invariant.next, rows-short (meant_width a.width) a.t a.body.now a.start (c.loop-row.row * a.t)))
 
-pub loop-e-init : goal.loop-e-init
-loop-e-init c =
-    let n = c.args.n in
-    let t = c.args.t in
-    let e : n - 0 ≡ n = omega arith in
-    (omega arith, omega arith, omega arith, rw e (all-coming _ _ _), sym (zero-div t), sym (zero-mod t))
-
-pub next_row-i-requires : goal.next_row-i-requires
-next_row-i-requires c =
-    let t = c.args.t in
-    (omega (arith, div-le_self c.loop-e.e t), omega (arith, mod-le c.loop-e.e t))
-
-pub next_column-j-requires : goal.next_column-j-requires
-next_column-j-requires c =
-    let t = c.args.t in
-    omega (arith, mod-le c.loop-e.e t)
-
-pub loop-e-preserved : goal.loop-e-preserved
-unfolding width body
-loop-e-preserved c =
-    let y = c.loop-e.invariant.4 in
-    let z = c.loop-e.invariant.5 in
-    let N = next-cell c.args.t c.loop-e.e (c.requires.0 (omega arith)) in (
-      omega arith,
-      omega arith,
-      omega arith,
-      come-set as_is (fld 2) _ _ _ _ _ 65535 c.loop-e-test.true (ap (λ (x : ℕ). x ∷ []) (sym c.get_u16.ensures)) (rw (y, z) at c.put_cell-p.ensures.0) c.loop-e.invariant.3,
-      rw (y, z) at c.next_row-i.ensures ∙ N.0,
-      rw z at c.next_column-j.ensures ∙ N.1,
-    )
-
-pub shape_of-out : goal.shape_of-out
-shape_of-out c = laid-length (set-laid as_is (fld 2) _ _ _ _ _ 65535 c.loop-e-test.false c.loop-e.invariant.3)
+pub loop-row-preserved : goal.loop-row-preserved
+loop-row-preserved c =
+    let a = c.args in
+    rows-next (meant_width a.width) a.t a.body.now a.start c.loop-row.row c.loop-row.invariant c.put_row-p.ensures.0
 
 pub returns : goal.returns
-unfolding width body
-returns c = (set-laid as_is (fld 2) _ _ _ _ _ 65535 c.loop-e-test.false c.loop-e.invariant.3, omega arith)
+returns c =
+    let a = c.args in
+    let w = meant_width a.width in
+    let e : c.loop-row.row ≡ a.i = omega arith in
+    let m = rw e at c.loop-row.invariant in
+    (rows-laid w a.t a.body.now a.start (a.i * a.t) m, omega (arith, m.next, rows-short w a.t a.body.now a.start (a.i * a.t)))

@@ -1,31 +1,10 @@
--- The answers that the search does not find.
-use mathlib.Core.Path.{◌≡◌, refl, ap, ◌∙◌}
-use mathlib.Core.List.{[], ◌∷◌}
-use Prim.Native.Nat.{ℕ}
-use native.Mathlib.Omega.{arith}
+-- `put_handles` meets its contract: its numbers are those of the layout.
+use mathlib.Core.Path.{refl}
 use Rattle.format.specs.Layout.{as_is, fld, width}
 use Rattle.format.specs.Kind.{Handle, body}
-use Rattle.format.specs.Normal.{call}
-use Rattle.laws.proofs.Fields.{length-call}
-use Rattle.readout.proofs.Lists.{turn-first, turn-next, turn_end, laid-length}
+use Rattle.readout.proofs.Lists.{each-laid}
 use Rattle.readout.proofs.put_handles.Goals as goal
 
-pub loop-i-init : goal.loop-i-init
-loop-i-init c = turn-first as_is (fld 2) Handle 3 32 _ _ _ _
-
-pub overflow_add-p : goal.overflow_add-p
-unfolding body width
-overflow_add-p c =
-    let z : c.put_body-p.result ≡ 3 = c.put_body-p.ensures.value ∙ length-call Handle _ in
-    omega arith
-
-pub loop-i-preserved : goal.loop-i-preserved
-unfolding body width
-loop-i-preserved c =
-    turn-next as_is (fld 2) Handle 3 32 _ _ _ _ c.loop-i.invariant c.loop-i-test.true refl refl c.put_body-p.ensures.out_after c.put_body-p.ensures.value (ap (λ (x : ℕ). call Handle (x ∷ [])) c.smbios_handle.ensures)
-
-pub shape_of-out : goal.shape_of-out
-shape_of-out c = laid-length (turn_end as_is (fld 2) Handle 3 32 _ _ _ _ c.loop-i.invariant c.loop-i-test.false).0
-
 pub returns : goal.returns
-returns c = turn_end as_is (fld 2) Handle 3 32 _ _ _ _ c.loop-i.invariant c.loop-i-test.false
+unfolding width body
+returns c = each-laid as_is (fld 2) c.args.body.now Handle as_is (λ v. refl) c.args.n 32 c.put_each.ensures

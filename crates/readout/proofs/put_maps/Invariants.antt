@@ -1,12 +1,8 @@
--- `put_maps` meets its contract: the loop over a list of numbers.
-use Prim.Native.Nat.{◌-◌}
+-- The calls that `put_maps` lays.
 use Rattle.format.specs.Layout.{as_is, fld}
 use Rattle.format.specs.Kind.{Map}
-use Rattle.readout.proofs.Lists.{Turning}
+use Rattle.readout.proofs.Lists.{calls_each, map_short}
 use Rattle.readout.proofs.put_maps.Given as goal
 
-abbrev pub invariant-loop-i : goal.invariant-loop-i
-invariant-loop-i l = Turning as_is (fld 8) Map 9 8 l.body l.n l.initial.out l.at l.out l.p l.i
-
-abbrev pub decreases-loop-i : goal.decreases-loop-i
-decreases-loop-i l = l.n - l.i
+abbrev pub ghost-put_each : goal.ghost-put_each
+ghost-put_each a = calls_each as_is (fld 8) a.put.0.now Map 8 as_is map_short

@@ -5,24 +5,16 @@ use native.Mathlib.Omega.{arith}
 use Rattle.format.specs.Layout.{width}
 use Rattle.format.specs.Kind.{body}
 use Rattle.readout.proofs.Lists.{laid_on}
-use Rattle.readout.proofs.Records.{settings-at, some-targets, few-cells}
+use Rattle.readout.proofs.Records.{settings-at, few-cells}
 use Rattle.readout.proofs.put_settings.Goals as goal
 
 pub put_values-q-requires : goal.put_values-q-requires
 unfolding width body
 put_values-q-requires c = omega arith
 
-pub overflow_mul-i : goal.overflow_mul-i
-overflow_mul-i c =
-    let f = few-cells c.args.i c.args.t c.requires.0 c.requires.1 in
-    omega arith
-
 pub put_cells-requires : goal.put_cells-requires
 unfolding width body
-put_cells-requires c =
-    let s = c.args in
-    let f = few-cells s.i s.t c.requires.0 c.requires.1 in
-    (some-targets s.i s.t, omega (arith, c.target_place-cells.ensures), omega arith, omega arith)
+put_cells-requires c = (omega (arith, c.target_place-cells.ensures), c.requires.0, c.requires.1, omega arith)
 
 pub returns : goal.returns
 unfolding width body

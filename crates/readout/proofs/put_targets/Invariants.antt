@@ -1,12 +1,8 @@
--- `put_targets` meets its contract: the loop over a list of numbers.
-use Prim.Native.Nat.{◌-◌}
+-- The calls that `put_targets` lays.
 use Rattle.format.specs.Layout.{as_is, fld}
 use Rattle.format.specs.Kind.{WindowTarget}
-use Rattle.readout.proofs.Lists.{Turning}
+use Rattle.readout.proofs.Lists.{calls_each, target_short}
 use Rattle.readout.proofs.put_targets.Given as goal
 
-abbrev pub invariant-loop-i : goal.invariant-loop-i
-invariant-loop-i l = Turning as_is (fld 4) WindowTarget 5 36 l.body l.n l.initial.out l.at l.out l.p l.i
-
-abbrev pub decreases-loop-i : goal.decreases-loop-i
-decreases-loop-i l = l.n - l.i
+abbrev pub ghost-put_each : goal.ghost-put_each
+ghost-put_each a = calls_each as_is (fld 4) a.put.0.now WindowTarget 36 as_is target_short

@@ -4,16 +4,18 @@ use Prim.Native.Nat.{◌+◌}
 use native.Mathlib.Omega.{arith}
 use borrow.Author.Rules.{rules}
 use Rattle.format.specs.Kind.{Cell}
+use denote.Enum.Bare.{differs_false}
+use Rattle.header.specs.contracts.Table.{the_type}
 use Rattle.hmat.specs.Widths.{meant_width}
 use Rattle.recipe.proofs.Numbers.{body-short}
 use Rattle.recipe.proofs.Walks.{cell-fits, cell-passed}
 use Rattle.recipe.proofs.past_cells.Goals as goal
 
+pub returns-then-ne : goal.returns-then-ne
+returns-then-ne c = (search rules, λ h q ws w. w)
+
 pub returns-in_default : goal.returns-in_default
 returns-in_default c = (search rules, λ h q ws w. w)
-
-pub returns-in_default-newest : goal.returns-in_default-newest
-returns-in_default-newest c = (search rules, λ h q ws w. w)
 
 pub overflow_add-len : goal.overflow_add-len
 overflow_add-len c = omega (arith, c.body_len-len.ensures, body-short (Cell (meant_width c.in-Matrix.width)))
@@ -42,4 +44,4 @@ loop-width-preserved c =
 
 pub returns : goal.returns
 returns c =
-    (c.loop-width.invariant.0, λ h q ws w. c.loop-width.invariant.1 h q _ ws c.in-Hmat.is c.in-Matrix.is w)
+    (c.loop-width.invariant.0, λ h q ws w. c.loop-width.invariant.1 h q c.args.st ws (differs_false the_type (search rules) _ _ (sym c.ne.ensures ∙ c.if-ne.false)) c.in-Matrix.is w)

@@ -6,13 +6,13 @@ use lib.ListN.{length}
 use Rattle.format.specs.Table.{Head}
 use Rattle.header.specs.declared.Table.TheVariants.{Hmat}
 use Rattle.recipe.specs.declared.Newest.TheVariants.{Matrix}
-use Rattle.recipe.specs.declared.State.{State}
-use Rattle.recipe.specs.Machine.{Stands}
+use Rattle.recipe.specs.declared.state.State.{State}
+use Rattle.recipe.specs.Machine.{counts, Stands}
 use Rattle.recipe.proofs.past_cells.Given as goal
 
 abbrev pub invariant-loop-width : goal.invariant-loop-width
 invariant-loop-width l =
-    (l.from ≤ l.at) × ((h : Head) (made : ℕ) (s : State) (ws : List ℕ) → s.table ≡ Hmat → s.newest ≡ Matrix l.width l.i l.t → Stands l.recipe h made l.from s ws → Stands l.recipe h made l.at s ws)
+    (l.from ≤ l.at) × ((h : Head) (made : ℕ) (s : State) (ws : List ℕ) → s.table ≡ Hmat → s.newest ≡ Matrix l.width l.i l.t → Stands l.recipe h made l.from (counts s) ws → Stands l.recipe h made l.at (counts s) ws)
 
 abbrev pub decreases-loop-width : goal.decreases-loop-width
 decreases-loop-width l = length l.recipe - l.at

@@ -5,11 +5,11 @@ use lib.ListN.{length}
 use Rattle.format.specs.Bytes.{part}
 use Rattle.format.specs.Table.{head_of}
 use Rattle.header.specs.Header.{meant}
-use Rattle.recipe.specs.Machine.{Stands}
+use Rattle.recipe.specs.Machine.{counts, Stands}
 use Rattle.recipe.proofs.walk.Given as goal
 
 abbrev pub invariant-loop-at : goal.invariant-loop-at
-invariant-loop-at l = Stands l.recipe (head_of (meant l.table) (part l.recipe 2 26)) l.made l.at l.st l.types × (length l.types ≡ length l.initial.types)
+invariant-loop-at l = Stands l.recipe (head_of (meant l.table) (part l.recipe 2 26)) l.made l.at (counts l.st) l.types × (length l.types ≡ length l.initial.types)
 
 abbrev pub decreases-loop-at : goal.decreases-loop-at
 decreases-loop-at l = length l.recipe - l.at

@@ -5,4 +5,4 @@ use Rattle.rows.proofs.sound.Goals as goal
 
 pub returns-in-Matrices : goal.returns-in-Matrices
 unfolding form_in
-returns-in-Matrices c = rw c.in-Matrices.is (c.is_sound-in-Matrices.ensures byte)
+returns-in-Matrices c = rw (c.in-Some.is, c.in-Matrices.is) (c.is_sound-in-Matrices.ensures byte)

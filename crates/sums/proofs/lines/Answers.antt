@@ -1,7 +1,7 @@
 -- `lines` meets its contract: the words of the sum, what is left of it, and the lines about the checksum, one behind the other.
-use mathlib.Core.Path.{◌∙◌}
+use Rattle.std.proofs.Common.{rules, ◌∙◌}
 use Rattle.field.proofs.Parts.{whole-number}
-use Rattle.text.proofs.Laws.{laid-behind}
+use Rattle.text.proofs.Texts.{next, laid_back}
 use Rattle.sums.specs.Lines.{lines_of}
 use Rattle.sums.proofs.lines.Goals as goal
 
@@ -9,5 +9,5 @@ pub returns : goal.returns
 unfolding lines_of
 returns c =
     let a = c.args in
-    c.checked.ensures ∙ laid-behind _ _ _ c.byte-m.ensures _ ∙ laid-behind _ _ _ c.spaced-m.ensures _ ∙ laid-behind _ _ _ c.bytes-m.ensures _
-    ∙ laid-behind a.out.now 0 _ c.summed-m.ensures _ ∙ rw (c.u8sum-sum.ensures, whole-number)
+    let all = next _ _ _ c.summed.ensures (next _ _ _ c.bytes.ensures (next _ _ _ c.spaced.ensures (next _ _ _ c.byte.ensures c.checked.ensures))) in
+    rw (c.len.ensures) (laid_back _ a.out 0 _ c.new-text.ensures all (λ q. search rules) ∙ rw (c.u8sum-sum.ensures, whole-number))

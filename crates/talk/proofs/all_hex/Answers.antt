@@ -1,22 +1,13 @@
--- The answers that the search does not find.
-use mathlib.Core.Path.{refl, sym, ◌∙◌}
-use borrow.Author.Rules.{rules}
-use borrow.Author.Tests.{eq-eqb, ne_eqb}
-use Rattle.talk.proofs.Turns.{hex-turn, hex-end}
+-- `talk::all_hex` meets its contract: what `all` answers is the definition.
+use Rattle.std.proofs.Common.{rules, is_some, sym, ◌∙◌}
+use Rattle.std.proofs.lemmas.Iterator.{YieldsList-from_slice}
+use Rattle.std.proofs.lemmas.Iterator.Search.{all_from_yields_List}
+use borrow.Author.Tests.{tests}
+use Rattle.talk.specs.Hex.{value_of}
+use Rattle.talk.proofs.Tests.{all_hex-all}
 use Rattle.talk.proofs.all_hex.Goals as goal
 
-pub loop-i-init : goal.loop-i-init
-loop-i-init c = (search rules, refl)
-
-pub returns-then-value-eq16 : goal.returns-then-value-eq16
-returns-then-value-eq16 c =
-    let turn = hex-turn c.args.text.now c.loop-i.i c.loop-i-test.true in
-    sym (c.loop-i.invariant.1 ∙ turn ∙ rw (← c.value.ensures, eq-eqb _ _ c.if-value-eq16.true))
-
-pub loop-i-preserved : goal.loop-i-preserved
-loop-i-preserved c =
-    let turn = hex-turn c.args.text.now c.loop-i.i c.loop-i-test.true in
-    (search rules, c.loop-i.invariant.1 ∙ turn ∙ rw (← c.value.ensures, ne_eqb _ _ c.if-value-eq16.false))
-
 pub returns : goal.returns
-returns c = sym (c.loop-i.invariant.1 ∙ hex-end c.args.text.now c.loop-i.i c.loop-i-test.false)
+returns c =
+    let s = c.args.text.now in
+    all_from_yields_List (λ b. is_some (value_of b)) _ _ _ c.all.ensures.ran (YieldsList-from_slice s cc) (λ x b q k. search (rules, tests)) ∙ sym (all_hex-all s)

@@ -1,34 +1,28 @@
 -- The answers that the search does not find.
-use mathlib.Core.Path.{sym, ◌∙◌}
-use borrow.Author.Rules.{rules}
+use Rattle.std.proofs.Common.{sym, ◌∙◌, rules}
 use Rattle.talk.proofs.Turns.{number-none, number-some, number-turn, number-end}
 use Rattle.talk.proofs.decimal.Goals as goal
 
-pub returns-then-text-eq0 : goal.returns-then-text-eq0
-returns-then-text-eq0 c = let a = c.args in sym (number-none a.most a.text.now c.if-text-eq0.true)
+pub returns-then-is_empty : goal.returns-then-is_empty
+returns-then-is_empty c = let a = c.args in sym (number-none a.most a.text.now (search rules))
 
-pub loop-i-init : goal.loop-i-init
-loop-i-init c = let a = c.args in (search rules, number-some a.most a.text.now c.if-text-eq0.false)
+pub loop-b-init : goal.loop-b-init
+loop-b-init c = let a = c.args in number-some a.most a.text.now (search rules)
 
-pub enum_known-w : goal.enum_known-w
-enum_known-w c = c.in-Value.in-Value-own.keys1
-
-pub enum_told-1 : goal.enum_told-1
-enum_told-1 c = c.in-Other.in-Other-own.keys2
-
-pub returns-in-Other : goal.returns-in-Other
-returns-in-Other c =
+pub returns-in_err-v : goal.returns-in_err-v
+returns-in_err-v c =
     let a = c.args in
-    let turn = number-turn a.text.now c.loop-i.i c.loop-i-test.true a.most c.loop-i.v in
-    sym (c.loop-i.invariant.1 ∙ turn ∙ rw (← c.step.ensures, c.in-Other.is))
+    let l = c.loop-b in
+    c.from_residual.ensures ∙ sym (l.invariant ∙ number-turn a.text.now l.b-index c.loop-b-test.true a.most l.v ∙ rw (← c.in_err-v.ensures))
 
-pub loop-i-preserved : goal.loop-i-preserved
-loop-i-preserved c =
+pub loop-b-preserved : goal.loop-b-preserved
+loop-b-preserved c =
     let a = c.args in
-    let turn = number-turn a.text.now c.loop-i.i c.loop-i-test.true a.most c.loop-i.v in
-    (search rules, c.loop-i.invariant.1 ∙ turn ∙ rw (← c.step.ensures, c.in-Value.is))
+    let l = c.loop-b in
+    l.invariant ∙ number-turn a.text.now l.b-index c.loop-b-test.true a.most l.v ∙ rw (← c.in_ok-v.ensures)
 
 pub returns : goal.returns
 returns c =
     let a = c.args in
-    sym (c.loop-i.invariant.1 ∙ number-end a.text.now c.loop-i.i c.loop-i-test.false a.most c.loop-i.v)
+    let l = c.loop-b in
+    sym (l.invariant ∙ number-end a.text.now l.b-index c.loop-b-test.false a.most l.v)

@@ -8,4 +8,4 @@ use Rattle.writes.proofs.set_cell.Goals as goal
 pub returns : goal.returns
 returns c =
     let a = c.args in
-    c.put_u16.ensures ∙ ap (λ (vs : List ℕ). over a.out.now a.place (le 2 (at vs 2))) c.from_body.ensures
+    c.put.ensures ∙ ap (λ (vs : List ℕ). over a.out.now a.place (le 2 (at vs 2))) c.from_body.ensures

@@ -8,4 +8,4 @@ use Rattle.writes.proofs.set_value.Goals as goal
 pub returns : goal.returns
 returns c =
     let a = c.args in
-    c.put_u32.ensures ∙ ap (λ (vs : List ℕ). over a.out.now a.place (le 4 (at vs 1))) c.from_body.ensures
+    c.put.ensures ∙ ap (λ (vs : List ℕ). over a.out.now a.place (le 4 (at vs 1))) c.from_body.ensures

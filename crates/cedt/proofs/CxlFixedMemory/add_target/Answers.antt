@@ -4,4 +4,4 @@ use Rattle.laws.proofs.Over.{over-at}
 use Rattle.cedt.proofs.CxlFixedMemory.add_target.Goals as goal
 
 pub returns : goal.returns
-returns c = over-at _ _ _ _ _ _ c.put_u32.ensures c.target_place-place.ensures (omega arith)
+returns c = over-at _ _ _ _ _ _ c.put.ensures c.target_place-place.ensures (omega arith)

@@ -6,4 +6,4 @@ use Rattle.cedt.proofs.CxlFixedMemory.from_body.Goals as goal
 pub returns : goal.returns
 unfolding body
 returns c =
-    rw (fields-now Window, c.get_u64.ensures, c.get_u64-2.ensures, c.get_u8.ensures, c.get_u8-2.ensures, c.get_u8-3.ensures, c.get_u8-4.ensures, c.get_u16.ensures)
+    rw (fields-now Window, c.get.ensures, c.get-2.ensures, c.get-3.ensures, c.get-4.ensures, c.get-5.ensures, c.get-6.ensures, c.get-7.ensures)

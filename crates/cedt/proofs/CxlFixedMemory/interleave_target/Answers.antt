@@ -4,4 +4,4 @@ use Rattle.laws.proofs.Over.{value-at}
 use Rattle.cedt.proofs.CxlFixedMemory.interleave_target.Goals as goal
 
 pub returns : goal.returns
-returns c = value-at _ _ _ _ _ _ c.get_u32.ensures c.target_place.ensures (omega arith)
+returns c = value-at _ _ _ _ _ _ c.get.ensures c.target_place.ensures (omega arith)

@@ -5,4 +5,4 @@ use Rattle.cedt.proofs.CxlHostBridge.from_body.Goals as goal
 
 pub returns : goal.returns
 unfolding body
-returns c = rw (fields-now Bridge, c.get_u32.ensures, c.get_u8.ensures, c.get_u64.ensures)
+returns c = rw (fields-now Bridge, c.get.ensures, c.get-2.ensures, c.get-3.ensures)

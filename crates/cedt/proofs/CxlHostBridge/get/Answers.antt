@@ -7,4 +7,4 @@ use Rattle.cedt.proofs.CxlHostBridge.get.Goals as goal
 pub returns : goal.returns
 unfolding layout form_in
 returns c =
-    rw (node_at_lem, c.get_u32.ensures, c.get_u32-2.ensures, c.get_u64.ensures, c.rest-s.ensures)
+    rw (node_at_lem, c.get.ensures, c.get-2.ensures, c.get-3.ensures, c.rest-s.ensures)

@@ -4,12 +4,12 @@ use borrow.Author.Tests.{eq-eqb, ne_eqb}
 use Rattle.format.specs.Form.{registers}
 use Rattle.cedt.proofs.CxlHostBridge.registers.Goals as goal
 
-pub returns-then-self-number : goal.returns-then-self-number
+pub returns-then-self-from : goal.returns-then-self-from
 unfolding registers
-returns-then-self-number c =
-    rw (c.len.ensures, eq-eqb _ 0 (c.if-self-number.true ∙ c.number.ensures))
+returns-then-self-from c =
+    rw (c.len.ensures, eq-eqb _ 0 (c.if-self-from.true ∙ c.from.ensures))
 
 pub returns : goal.returns
 unfolding registers
 returns c =
-    rw (c.len-2.ensures, ne_eqb _ 0 (λ e. c.if-self-number.false (e ∙ sym c.number.ensures)))
+    rw (c.len-2.ensures, ne_eqb _ 0 (λ e. c.if-self-from.false (e ∙ sym c.from.ensures)))

@@ -5,4 +5,4 @@ use Rattle.cedt.proofs.CxlTarget.from_body.Goals as goal
 
 pub returns : goal.returns
 unfolding body
-returns c = rw (fields-now WindowTarget, c.get_u32.ensures)
+returns c = rw (fields-now WindowTarget, c.get.ensures)

@@ -12,8 +12,8 @@ pub returns : goal.returns
 unfolding grown
 returns c =
     let s = c.args in
-    let one = over-at _ (s.at + 2) _ _ _ _ c.put_u16.ensures c.behind.ensures (omega arith) in
-    let two = over-at _ (s.at + 7) _ _ _ _ c.put_u8.ensures c.behind-2.ensures (omega arith) in
+    let one = over-at _ (s.at + 2) _ _ _ _ c.put.ensures c.saturating_add.ensures (omega arith) in
+    let two = over-at _ (s.at + 7) _ _ _ _ c.put-2.ensures c.saturating_add-2.ensures (omega arith) in
     let n : le 1 ((s.n + 1) % 256) ≡ le 1 (s.n + 1) = le-mod 1 (s.n + 1) in
     let l : le 2 ((8 + 8 * (s.n + 1)) % 65536) ≡ le 2 (8 + 8 * (s.n + 1)) = le-mod 2 (8 + 8 * (s.n + 1)) in
     rw (c.put_map.ensures, two, one, l, n)

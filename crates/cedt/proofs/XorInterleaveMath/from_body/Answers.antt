@@ -5,4 +5,4 @@ use Rattle.cedt.proofs.XorInterleaveMath.from_body.Goals as goal
 
 pub returns : goal.returns
 unfolding body
-returns c = rw (body_at Xor, c.get_u8.ensures)
+returns c = rw (body_at Xor, c.get.ensures)

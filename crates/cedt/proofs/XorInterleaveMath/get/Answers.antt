@@ -6,4 +6,4 @@ use Rattle.cedt.proofs.XorInterleaveMath.get.Goals as goal
 
 pub returns : goal.returns
 unfolding layout form_in
-returns c = rw (node_at_lem, c.get_u8.ensures, c.get_u8-2.ensures, c.rest-s.ensures)
+returns c = rw (node_at_lem, c.get.ensures, c.get-2.ensures, c.rest-s.ensures)

@@ -1,11 +1,12 @@
 -- `XorInterleaveMath::is_sound` meets its contract: the fields that `get` reads are those that have ranges.
+use Rattle.field.proofs.Places.{is_none-place}
 use Rattle.laws.proofs.Fields.{sound-node}
 use Rattle.cedt.proofs.Fixed.{maths-bad}
 use Rattle.cedt.proofs.XorInterleaveMath.is_sound.Goals as goal
 
-pub returns-then-not-is_fixed : goal.returns-then-not-is_fixed
-returns-then-not-is_fixed c = rw (sound-node, ← c.is_fixed.ensures, c.if-not-is_fixed.true)
+pub returns-then-is_fixed : goal.returns-then-is_fixed
+returns-then-is_fixed c =
+    rw (sound-node, ← c.is_fixed.ensures, c.if-is_fixed.true, maths-bad, ← c.get.ensures) (is_none-place _ c.bad_field.ensures c.is_none.ensures)
 
-pub returns : goal.returns
-returns c =
-    rw (sound-node, ← c.is_fixed.ensures, c.if-not-is_fixed.false, maths-bad, ← c.get.ensures, c.bad_field.ensures)
+pub returns-else-is_fixed : goal.returns-else-is_fixed
+returns-else-is_fixed c = rw (sound-node, ← c.is_fixed.ensures, c.if-is_fixed.false)

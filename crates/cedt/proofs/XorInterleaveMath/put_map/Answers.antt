@@ -4,4 +4,4 @@ use Rattle.laws.proofs.Over.{over-at}
 use Rattle.cedt.proofs.XorInterleaveMath.put_map.Goals as goal
 
 pub returns : goal.returns
-returns c = over-at _ _ _ _ _ _ c.put_u64.ensures c.map_place-place.ensures (omega arith)
+returns c = over-at _ _ _ _ _ _ c.put.ensures c.map_place-place.ensures (omega arith)

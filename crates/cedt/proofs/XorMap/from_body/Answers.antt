@@ -5,4 +5,4 @@ use Rattle.cedt.proofs.XorMap.from_body.Goals as goal
 
 pub returns : goal.returns
 unfolding body
-returns c = rw (fields-now Map, c.get_u64.ensures)
+returns c = rw (fields-now Map, c.get.ensures)

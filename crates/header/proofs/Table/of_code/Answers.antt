@@ -1,5 +1,5 @@
 -- `Table::of_code` meets its contract: each code against the tables' own.
-use Rattle.std.proofs.Common.{ne_eqb}
+use Rattle.std.proofs.Common.{ne_eqb, arith}
 use Rattle.header.proofs.Table.of_code.Goals as goal
 
 pub returns-in-0 : goal.returns-in-0
@@ -16,5 +16,5 @@ returns-in-3 c = rw c.in-3.is
 
 pub returns-in_default : goal.returns-in_default
 returns-in_default c =
-    let o = c.in_default.in_default-own.rest in
-    rw (ne_eqb _ _ o.0.0.0.1, ne_eqb _ _ o.0.0.1, ne_eqb _ _ o.0.1, ne_eqb _ _ o.1)
+    let n = c.args.code in
+    rw (ne_eqb n 0 (omega arith), ne_eqb n 1 (omega arith), ne_eqb n 2 (omega arith), ne_eqb n 3 (omega arith))

@@ -9,4 +9,4 @@ overflow_cast-front c = let l = front-small (meant c.args.table) in omega (arith
 
 pub returns : goal.returns
 returns c =
-    c.new.ensures ∙ rw (c.front.ensures, c.get_u32.ensures, c.copy.ensures, c.rest.ensures, c.copy-2.ensures, c.rest-2.ensures, c.copy-3.ensures, c.rest-3.ensures, c.copy-4.ensures, c.rest-4.ensures)
+    c.new.ensures ∙ rw (c.front.ensures, c.padded.ensures, c.padded-2.ensures, c.get.ensures, c.padded-3.ensures, c.padded-4.ensures)

@@ -2,4 +2,4 @@
 use Rattle.header.proofs.TableHeader.new.Goals as goal
 
 pub returns : goal.returns
-returns c = rw (c.signature-signature.ensures, c.revision.ensures)
+returns c = rw (c.signature.ensures, c.revision.ensures)

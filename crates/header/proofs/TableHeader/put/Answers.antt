@@ -11,7 +11,7 @@ pub returns : goal.returns
 unfolding header_bytes
 returns c =
     let l : length c.args.self.signature ≡ 4 = search rules in
-    let two = over-next _ _ _ _ _ _ _ c.copy.ensures c.put_u32.ensures (omega arith) in
+    let two = over-next _ _ _ _ _ _ _ c.copy.ensures c.put.ensures (omega arith) in
     let three = over-next _ _ _ _ _ _ _ two c.copy-2.ensures (rw (length-append, length-le) (omega arith)) in
     let four = over-next _ _ _ _ _ _ _ three c.put_identity.ensures (rw (length-append, length-append, length-le) (omega arith)) in
     four ∙ simp append_assoc

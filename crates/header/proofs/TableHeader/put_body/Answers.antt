@@ -13,5 +13,5 @@ returns c =
     let a = c.args in
     let out = c.args.out.now in
     let t = meant a.table in
-    let two = over-next out 0 (1 ∷ []) _ 1 (code t ∷ []) _ c.put_u8.ensures (c.put_u8-2.ensures ∙ rw (c.code.ensures, code-byte t)) refl in
+    let two = over-next out 0 (1 ∷ []) _ 1 (code t ∷ []) _ c.put.ensures (c.put-2.ensures ∙ rw (c.code.ensures, code-byte t)) refl in
     over-next out 0 (1 ∷ code t ∷ []) _ 2 (part a.bytes.now 10 26) _ two (c.copy.ensures ∙ rw c.part.ensures) refl

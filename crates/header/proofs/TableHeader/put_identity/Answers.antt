@@ -11,7 +11,7 @@ returns c =
     let m : length c.args.self.oem_table_id ≡ 8 = search rules in
     let n : length c.args.self.creator_id ≡ 4 = search rules in
     let two = over-next _ _ _ _ _ _ _ c.copy.ensures c.copy-2.ensures (omega arith) in
-    let three = over-next _ _ _ _ _ _ _ two c.put_u32.ensures (rw length-append (omega arith)) in
+    let three = over-next _ _ _ _ _ _ _ two c.put.ensures (rw length-append (omega arith)) in
     let four = over-next _ _ _ _ _ _ _ three c.copy-3.ensures (rw (length-append, length-append, length-le) (omega arith)) in
     let five = over-next _ _ _ _ _ _ _ four c.copy-4.ensures (rw (length-append, length-append, length-append, length-le) (omega arith)) in
     five ∙ simp append_assoc

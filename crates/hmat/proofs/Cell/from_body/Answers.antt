@@ -4,4 +4,4 @@ use Rattle.hmat.proofs.Cell.from_body.Goals as goal
 
 pub returns : goal.returns
 returns c =
-    rw (cell-fields, c.get.ensures, c.get-2.ensures, c.target_at.ensures, c.get_u16.ensures, c.value_at.ensures)
+    rw (cell-fields, c.get.ensures, c.get-2.ensures, c.target_at.ensures, c.get-3.ensures, c.value_at.ensures)

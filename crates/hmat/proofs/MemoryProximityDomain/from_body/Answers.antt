@@ -5,4 +5,4 @@ use Rattle.hmat.proofs.MemoryProximityDomain.from_body.Goals as goal
 
 pub returns : goal.returns
 unfolding body
-returns c = rw (body_at Domain, c.get_u32.ensures, c.get_u32-2.ensures)
+returns c = rw (body_at Domain, c.get.ensures, c.get-2.ensures)

@@ -5,4 +5,4 @@ use Rattle.hmat.proofs.MemoryProximityDomain.get.Goals as goal
 
 pub returns : goal.returns
 unfolding layout
-returns c = rw (node_at_lem, c.get_u32.ensures, c.get_u32-2.ensures, c.rest-s.ensures)
+returns c = rw (node_at_lem, c.get.ensures, c.get-2.ensures, c.rest-s.ensures)

@@ -5,4 +5,4 @@ use Rattle.hmat.proofs.MemorySideCache.from_body.Goals as goal
 
 pub returns : goal.returns
 unfolding body
-returns c = rw (body_at Side, c.get_u32.ensures, c.get_u64.ensures, c.get_u32-2.ensures)
+returns c = rw (body_at Side, c.get.ensures, c.get-2.ensures, c.get-3.ensures)

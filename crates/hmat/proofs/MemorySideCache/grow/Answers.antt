@@ -12,7 +12,7 @@ pub returns : goal.returns
 unfolding grown
 returns c =
     let s = c.args in
-    let one = over-at _ (s.at + 4) _ _ _ _ c.put_u32.ensures c.behind.ensures (omega arith) in
-    let two = over-at _ (s.at + 30) _ _ _ _ c.put_u16.ensures c.behind-2.ensures (omega arith) in
+    let one = over-at _ (s.at + 4) _ _ _ _ c.put.ensures c.saturating_add.ensures (omega arith) in
+    let two = over-at _ (s.at + 30) _ _ _ _ c.put-2.ensures c.saturating_add-2.ensures (omega arith) in
     let n : le 2 ((s.n + 1) % 65536) ≡ le 2 (s.n + 1) = le-mod 2 (s.n + 1) in
     rw (c.put_handle.ensures, two, one, n)

@@ -5,19 +5,19 @@ use Rattle.laws.proofs.Fields.{differs, equals}
 use Rattle.hmat.proofs.Fixed.{side-fixed}
 use Rattle.hmat.proofs.MemorySideCache.is_fixed.Goals as goal
 
-pub returns-then-get_u16-ne-TYPE : goal.returns-then-get_u16-ne-TYPE
-returns-then-get_u16-ne-TYPE c = rw (side-fixed, differs c.get_u16.ensures c.if-get_u16-ne-TYPE.true)
+pub returns-then-get-ne-TYPE : goal.returns-then-get-ne-TYPE
+returns-then-get-ne-TYPE c = rw (side-fixed, differs c.get.ensures c.if-get-ne-TYPE.true)
 
-pub returns-then-get_u16-ne0 : goal.returns-then-get_u16-ne0
-returns-then-get_u16-ne0 c = simp (side-fixed, differs c.get_u16-2.ensures c.if-get_u16-ne0.true, both_false)
+pub returns-then-get-ne0 : goal.returns-then-get-ne0
+returns-then-get-ne0 c = simp (side-fixed, differs c.get-2.ensures c.if-get-ne0.true, both_false)
 
-pub returns-then-get_u32-len : goal.returns-then-get_u32-len
-returns-then-get_u32-len c =
-    rw (side-fixed, ← form-known 3 _ _ c.get.ensures, ← c.len.ensures) (simp (differs c.get_u32.ensures c.if-get_u32-len.true, both_false))
+pub returns-then-get-len : goal.returns-then-get-len
+returns-then-get-len c =
+    rw (side-fixed, ← form-known 3 _ _ c.get-4.ensures, ← c.len.ensures) (simp (differs c.get-3.ensures c.if-get-len.true, both_false))
 
-pub returns-then-get_u32-ne0 : goal.returns-then-get_u32-ne0
-returns-then-get_u32-ne0 c = simp (side-fixed, differs c.get_u32-2.ensures c.if-get_u32-ne0.true, both_false)
+pub returns-then-get-ne0-2 : goal.returns-then-get-ne0-2
+returns-then-get-ne0-2 c = simp (side-fixed, differs c.get-5.ensures c.if-get-ne0-2.true, both_false)
 
 pub returns : goal.returns
 returns c =
-    rw (side-fixed, equals c.get_u16.ensures c.if-get_u16-ne-TYPE.false, equals c.get_u16-2.ensures c.if-get_u16-ne0.false, ← form-known 3 _ _ c.get.ensures, ← c.len.ensures, equals c.get_u32.ensures c.if-get_u32-len.false, equals c.get_u32-2.ensures c.if-get_u32-ne0.false, c.get_u16-3.ensures)
+    rw (side-fixed, equals c.get.ensures c.if-get-ne-TYPE.false, equals c.get-2.ensures c.if-get-ne0.false, ← form-known 3 _ _ c.get-4.ensures, ← c.len.ensures, equals c.get-3.ensures c.if-get-len.false, equals c.get-5.ensures c.if-get-ne0-2.false, c.get-6.ensures)

@@ -4,4 +4,4 @@ use Rattle.laws.proofs.Over.{over-at}
 use Rattle.hmat.proofs.MemorySideCache.put_handle.Goals as goal
 
 pub returns : goal.returns
-returns c = over-at _ _ _ _ _ _ c.put_u16.ensures c.handle_place-place.ensures (omega arith)
+returns c = over-at _ _ _ _ _ _ c.put.ensures c.handle_place-place.ensures (omega arith)

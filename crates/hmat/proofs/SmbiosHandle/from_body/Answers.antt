@@ -5,4 +5,4 @@ use Rattle.hmat.proofs.SmbiosHandle.from_body.Goals as goal
 
 pub returns : goal.returns
 unfolding body
-returns c = rw (fields-now Handle, c.get_u16.ensures)
+returns c = rw (fields-now Handle, c.get.ensures)

@@ -4,4 +4,4 @@ use Rattle.laws.proofs.Over.{value-at}
 use Rattle.hmat.proofs.SystemLocality.entry_value.Goals as goal
 
 pub returns : goal.returns
-returns c = value-at _ _ _ _ _ _ c.get_u16.ensures c.cell_place-place.ensures (omega arith)
+returns c = value-at _ _ _ _ _ _ c.get.ensures c.cell_place-place.ensures (omega arith)

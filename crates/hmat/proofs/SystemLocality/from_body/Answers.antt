@@ -6,4 +6,4 @@ use Rattle.hmat.proofs.SystemLocality.from_body.Goals as goal
 pub returns : goal.returns
 unfolding body
 returns c =
-    rw (fields-now (Matrix _), c.get_u8.ensures, c.get_u8-2.ensures, c.get_u8-3.ensures, c.get_u64.ensures, c.get.ensures, c.get-2.ensures, c.targets_at.ensures)
+    rw (fields-now (Matrix _), c.get.ensures, c.get-2.ensures, c.get-3.ensures, c.get-4.ensures, c.get-5.ensures, c.get-6.ensures, c.targets_at.ensures)

@@ -7,4 +7,4 @@ use Rattle.hmat.proofs.SystemLocality.get.Goals as goal
 pub returns : goal.returns
 unfolding layout form_in
 returns c w =
-    rw (node_at_lem, c.get_u8.ensures, c.get_u8-2.ensures, c.get_u8-3.ensures, c.get_u64.ensures, c.get_u32.ensures, c.get_u32-2.ensures, c.rest-s.ensures)
+    rw (node_at_lem, c.get.ensures, c.get-2.ensures, c.get-3.ensures, c.get-4.ensures, c.get-5.ensures, c.get-6.ensures, c.rest-s.ensures)

@@ -4,4 +4,4 @@ use Rattle.laws.proofs.Over.{value-at}
 use Rattle.hmat.proofs.SystemLocality.initiator_value.Goals as goal
 
 pub returns : goal.returns
-returns c = value-at _ _ _ _ _ _ c.get_u32.ensures c.initiator_place.ensures (omega arith)
+returns c = value-at _ _ _ _ _ _ c.get.ensures c.initiator_place.ensures (omega arith)

@@ -7,5 +7,5 @@ use Rattle.hmat.proofs.SystemLocality.put.Goals as goal
 
 pub returns : goal.returns
 returns c =
-    let two = over-at _ _ _ _ _ _ c.put_unset.ensures c.behind-values.ensures (omega arith) in
+    let two = over-at _ _ _ _ _ _ c.put_unset.ensures c.saturating_add-values.ensures (omega arith) in
     rw fresh (over-next _ _ _ _ _ _ _ c.put_front.ensures two (rw length_front (omega arith)))

@@ -11,5 +11,5 @@ pub returns : goal.returns
 returns c =
     let m = c.args.self in
     let n : c.behind-cells.result ≡ min (2 * (m.initiators * m.targets)) 18446744073709551615 = omega arith in
-    let two = fill-at _ _ _ _ _ _ _ _ c.fill-2.ensures c.behind-first.ensures n (omega arith) in
+    let two = fill-at _ _ _ _ _ _ _ _ c.fill-2.ensures c.saturating_add-first.ensures n (omega arith) in
     over-next _ _ _ _ _ _ _ c.fill.ensures two (rw length-replicate (omega arith))

@@ -4,4 +4,4 @@ use Rattle.laws.proofs.Over.{over-at}
 use Rattle.hmat.proofs.SystemLocality.set_target_value.Goals as goal
 
 pub returns : goal.returns
-returns c = over-at _ _ _ _ _ _ c.put_u32.ensures c.target_place-place.ensures (omega arith)
+returns c = over-at _ _ _ _ _ _ c.put.ensures c.target_place-place.ensures (omega arith)

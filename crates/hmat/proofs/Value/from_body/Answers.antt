@@ -4,4 +4,4 @@ use Rattle.hmat.proofs.Value.from_body.Goals as goal
 
 pub returns : goal.returns
 returns c =
-    rw (value-fields, c.get.ensures, c.get_u32.ensures, c.value_at.ensures)
+    rw (value-fields, c.get.ensures, c.get-2.ensures, c.value_at.ensures)

@@ -7,4 +7,4 @@ use Rattle.pptt.proofs.CacheNode.from_body.Goals as goal
 pub returns : goal.returns
 unfolding body
 returns c =
-    rw (body_at Cache, c.get_u8.ensures, c.next_level_in.ensures, next-body, c.get_u32.ensures, c.get_u32-2.ensures, c.get_u8-2.ensures, c.get_u8-3.ensures, c.get_u16.ensures, c.get_u32-3.ensures)
+    rw (body_at Cache, c.get.ensures, c.next_level_in.ensures, next-body, c.get-2.ensures, c.get-3.ensures, c.get-4.ensures, c.get-5.ensures, c.get-6.ensures, c.get-7.ensures)

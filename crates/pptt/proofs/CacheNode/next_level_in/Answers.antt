@@ -3,4 +3,4 @@ use Rattle.pptt.proofs.Caches.{next-body}
 use Rattle.pptt.proofs.CacheNode.next_level_in.Goals as goal
 
 pub returns : goal.returns
-returns c = rw (next-body, c.get_u32.ensures)
+returns c = rw (next-body, c.get.ensures)

@@ -3,4 +3,4 @@ use Rattle.pptt.proofs.Caches.{next-record}
 use Rattle.pptt.proofs.CacheNode.next_level_of.Goals as goal
 
 pub returns : goal.returns
-returns c = rw (next-record, c.get_u32.ensures)
+returns c = rw (next-record, c.get.ensures)

@@ -6,4 +6,4 @@ use Rattle.pptt.proofs.ProcessorNode.from_body.Goals as goal
 
 pub returns : goal.returns
 unfolding body
-returns c = rw (body_at Processor, c.get_u32.ensures, c.parent_in.ensures, parent-body, c.get_u32-2.ensures)
+returns c = rw (body_at Processor, c.get.ensures, c.parent_in.ensures, parent-body, c.get-2.ensures)

@@ -3,4 +3,4 @@ use Rattle.pptt.proofs.Processors.{parent-body}
 use Rattle.pptt.proofs.ProcessorNode.parent_in.Goals as goal
 
 pub returns : goal.returns
-returns c = rw (parent-body, c.get_u32.ensures)
+returns c = rw (parent-body, c.get.ensures)

@@ -3,4 +3,4 @@ use Rattle.pptt.proofs.Processors.{parent-record}
 use Rattle.pptt.proofs.ProcessorNode.parent_of.Goals as goal
 
 pub returns : goal.returns
-returns c = rw (parent-record, c.get_u32.ensures)
+returns c = rw (parent-record, c.get.ensures)

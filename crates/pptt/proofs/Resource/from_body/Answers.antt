@@ -5,4 +5,4 @@ use Rattle.pptt.proofs.Resource.from_body.Goals as goal
 
 pub returns : goal.returns
 unfolding body
-returns c = rw (fields-now Resource, c.get_u32.ensures)
+returns c = rw (fields-now Resource, c.get.ensures)

@@ -1,74 +1,49 @@
 -- `Kind::refers` meets its contract: the reference of each body stands at its place.
-use mathlib.Core.Path.{ap}
+use mathlib.Core.Path.{◌≡◌, refl, sym, ap}
+use mathlib.Core.List.{List}
+use Prim.Native.Nat.{ℕ}
+use Rattle.std.specs.Prelude.{Some, None}
 use Rattle.format.specs.Bytes.{at}
+use Rattle.recipe.specs.declared.Kind as code
+use Rattle.recipe.specs.declared.Kind.TheVariants as is
 use Rattle.recipe.specs.declared.Reference.TheVariants.{Processor, Cache}
+use Rattle.recipe.specs.Kinds.{meant_kind, reference_of}
 use Rattle.recipe.proofs.Kind.refers.Goals as goal
 
+-- any other kind names nothing
+other : (k : code.Kind) (bs : List ℕ) → (k ≡ is.Processor → ⊥) → (k ≡ is.Resource → ⊥) → (k ≡ is.Cache → ⊥) → reference_of (meant_kind k) bs ≡ None
+other is.Processor bs p r c = absurd (p refl)
+other is.Resource bs p r c = absurd (r refl)
+other is.Cache bs p r c = absurd (c refl)
+other is.Memory bs p r c = refl
+other is.Acpi bs p r c = refl
+other is.Pci bs p r c = refl
+other is.Rintc bs p r c = refl
+other is.Domain bs p r c = refl
+other is.Matrix bs p r c = refl
+other is.Initiator bs p r c = refl
+other is.Target bs p r c = refl
+other is.Cell bs p r c = refl
+other is.Side bs p r c = refl
+other is.Handle bs p r c = refl
+other is.Bridge bs p r c = refl
+other is.Window bs p r c = refl
+other is.WindowTarget bs p r c = refl
+other is.Xor bs p r c = refl
+other is.Map bs p r c = refl
+other is.WideMatrix bs p r c = refl
+other is.WideInitiator bs p r c = refl
+other is.WideTarget bs p r c = refl
+other is.WideCell bs p r c = refl
+
 pub returns-in-Processor : goal.returns-in-Processor
-returns-in-Processor c = rw c.in-Processor.is (ap (λ v. Processor (record { 0 = v })) c.parent_in.ensures)
+returns-in-Processor c = rw c.in-Processor.is (ap (λ v. Some (Processor (record { 0 = v }))) c.parent_in.ensures)
 
 pub returns-in-Resource : goal.returns-in-Resource
-returns-in-Resource c = rw c.in-Resource.is (ap (λ vs. Cache (record { 0 = at vs 0 })) c.from_body.ensures)
+returns-in-Resource c = rw c.in-Resource.is (ap (λ vs. Some (Cache (record { 0 = at vs 0 }))) c.from_body.ensures)
 
 pub returns-in-Cache : goal.returns-in-Cache
-returns-in-Cache c = rw c.in-Cache.is (ap (λ v. Cache (record { 0 = v })) c.next_level_in.ensures)
+returns-in-Cache c = rw c.in-Cache.is (ap (λ v. Some (Cache (record { 0 = v }))) c.next_level_in.ensures)
 
-pub returns-in-Memory : goal.returns-in-Memory
-returns-in-Memory c = rw c.in-Memory.is
-
-pub returns-in-Acpi : goal.returns-in-Acpi
-returns-in-Acpi c = rw c.in-Acpi.is
-
-pub returns-in-Pci : goal.returns-in-Pci
-returns-in-Pci c = rw c.in-Pci.is
-
-pub returns-in-Rintc : goal.returns-in-Rintc
-returns-in-Rintc c = rw c.in-Rintc.is
-
-pub returns-in-Domain : goal.returns-in-Domain
-returns-in-Domain c = rw c.in-Domain.is
-
-pub returns-in-Matrix : goal.returns-in-Matrix
-returns-in-Matrix c = rw c.in-Matrix.is
-
-pub returns-in-Initiator : goal.returns-in-Initiator
-returns-in-Initiator c = rw c.in-Initiator.is
-
-pub returns-in-Target : goal.returns-in-Target
-returns-in-Target c = rw c.in-Target.is
-
-pub returns-in-Cell : goal.returns-in-Cell
-returns-in-Cell c = rw c.in-Cell.is
-
-pub returns-in-Side : goal.returns-in-Side
-returns-in-Side c = rw c.in-Side.is
-
-pub returns-in-Handle : goal.returns-in-Handle
-returns-in-Handle c = rw c.in-Handle.is
-
-pub returns-in-Bridge : goal.returns-in-Bridge
-returns-in-Bridge c = rw c.in-Bridge.is
-
-pub returns-in-Window : goal.returns-in-Window
-returns-in-Window c = rw c.in-Window.is
-
-pub returns-in-WindowTarget : goal.returns-in-WindowTarget
-returns-in-WindowTarget c = rw c.in-WindowTarget.is
-
-pub returns-in-Xor : goal.returns-in-Xor
-returns-in-Xor c = rw c.in-Xor.is
-
-pub returns-in-Map : goal.returns-in-Map
-returns-in-Map c = rw c.in-Map.is
-
-pub returns-in-WideMatrix : goal.returns-in-WideMatrix
-returns-in-WideMatrix c = rw c.in-WideMatrix.is
-
-pub returns-in-WideInitiator : goal.returns-in-WideInitiator
-returns-in-WideInitiator c = rw c.in-WideInitiator.is
-
-pub returns-in-WideTarget : goal.returns-in-WideTarget
-returns-in-WideTarget c = rw c.in-WideTarget.is
-
-pub returns-in-WideCell : goal.returns-in-WideCell
-returns-in-WideCell c = rw c.in-WideCell.is
+pub returns-in_default : goal.returns-in_default
+returns-in_default c = sym (other c.args.self _ c.in_default.not-Processor c.in_default.not-Resource c.in_default.not-Cache)

@@ -6,4 +6,4 @@ use Rattle.srat.proofs.GenericInitiator.from_acpi_body.Goals as goal
 pub returns : goal.returns
 unfolding body
 returns c =
-    rw (body_at Acpi, c.new_acpi-handle.ensures, c.get_u64.ensures, c.get_u32.ensures, c.get_u32-2.ensures, c.get_u8.ensures)
+    rw (body_at Acpi, c.new_acpi-handle.ensures, c.get.ensures, c.get-2.ensures, c.get-3.ensures, c.get-4.ensures)

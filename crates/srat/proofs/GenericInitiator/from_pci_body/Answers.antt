@@ -6,4 +6,4 @@ use Rattle.srat.proofs.GenericInitiator.from_pci_body.Goals as goal
 pub returns : goal.returns
 unfolding body
 returns c =
-    rw (body_at Pci, c.new_pci-handle.ensures, c.get_u16.ensures, c.get_u8.ensures, c.get_u8-2.ensures, c.get_u8-3.ensures, c.get_u32.ensures, c.get_u8-4.ensures)
+    rw (body_at Pci, c.new_pci-handle.ensures, c.get.ensures, c.get-2.ensures, c.get-3.ensures, c.get-4.ensures, c.get-5.ensures, c.get-6.ensures)

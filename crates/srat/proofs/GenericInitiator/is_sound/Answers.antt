@@ -2,10 +2,10 @@
 use Rattle.srat.proofs.Laws.{initiator-sound}
 use Rattle.srat.proofs.GenericInitiator.is_sound.Goals as goal
 
-pub returns-then-not-is_fixed : goal.returns-then-not-is_fixed
-returns-then-not-is_fixed c =
-    rw (initiator-sound c.args.row.now (c.type_inv.row 11).fits, ← c.is_fixed.ensures, c.if-not-is_fixed.true)
+pub returns-else-is_fixed : goal.returns-else-is_fixed
+returns-else-is_fixed c =
+    rw (initiator-sound c.args.row.now (c.type_inv.row 11).fits, ← c.is_fixed.ensures, c.if-is_fixed.false)
 
-pub returns : goal.returns
-returns c =
-    rw (initiator-sound c.args.row.now (c.type_inv.row 11).fits, ← c.is_fixed.ensures, c.if-not-is_fixed.false, ← c.get_u32.ensures, c.is_good_flags.ensures)
+pub returns-then-is_fixed : goal.returns-then-is_fixed
+returns-then-is_fixed c =
+    rw (initiator-sound c.args.row.now (c.type_inv.row 11).fits, ← c.is_fixed.ensures, c.if-is_fixed.true, ← c.get.ensures, c.is_good_flags.ensures)

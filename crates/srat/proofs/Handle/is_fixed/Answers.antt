@@ -6,12 +6,12 @@ use Rattle.srat.proofs.Handle.is_fixed.Goals as goal
 
 pub returns-in-0 : goal.returns-in-0
 unfolding handle_fixed
-returns-in-0 c = rw (← c.get_u8.ensures, c.in-0.is, c.get_u32.ensures)
+returns-in-0 c = rw (← c.get.ensures, c.in-0.is, c.get-in-0.ensures)
 
 pub returns-in-1 : goal.returns-in-1
 unfolding handle_fixed
-returns-in-1 c = rw (← c.get_u8.ensures, c.in-1.is) c.is_pci_fixed.ensures
+returns-in-1 c = rw (← c.get.ensures, c.in-1.is) c.is_pci_fixed.ensures
 
 pub returns-in_default : goal.returns-in_default
 unfolding handle_fixed
-returns-in_default c = rw (← c.get_u8.ensures, ne_eqb c.get_u8.result 0 (omega arith), ne_eqb c.get_u8.result 1 (omega arith))
+returns-in_default c = rw (← c.get.ensures, ne_eqb c.get.result 0 (omega arith), ne_eqb c.get.result 1 (omega arith))

@@ -2,8 +2,8 @@
 use Rattle.laws.proofs.Fields.{differs, equals, zeros-parts}
 use Rattle.srat.proofs.Handle.is_pci_fixed.Goals as goal
 
-pub returns-then-get_u32-ne0 : goal.returns-then-get_u32-ne0
-returns-then-get_u32-ne0 c = rw (zeros-parts c.args.row.now 12 4 8, differs c.get_u32.ensures c.if-get_u32-ne0.true)
+pub returns-then-get-ne0 : goal.returns-then-get-ne0
+returns-then-get-ne0 c = rw (zeros-parts c.args.row.now 12 4 8, differs c.get.ensures c.if-get-ne0.true)
 
 pub returns : goal.returns
-returns c = rw (zeros-parts c.args.row.now 12 4 8, equals c.get_u32.ensures c.if-get_u32-ne0.false, c.get_u64.ensures)
+returns c = rw (zeros-parts c.args.row.now 12 4 8, equals c.get.ensures c.if-get-ne0.false, c.get-2.ensures)

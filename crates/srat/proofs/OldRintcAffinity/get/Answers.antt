@@ -6,4 +6,4 @@ use Rattle.srat.proofs.OldRintcAffinity.get.Goals as goal
 pub returns : goal.returns
 unfolding layout
 returns c =
-    rw (node_at_lem, c.get_u32.ensures, c.get_u32-2.ensures, c.get_u32-3.ensures, c.rest-s.ensures)
+    rw (node_at_lem, c.get.ensures, c.get-2.ensures, c.get-3.ensures, c.rest-s.ensures)

@@ -2,9 +2,9 @@
 use Rattle.srat.proofs.Laws.{old-rintc-sound}
 use Rattle.srat.proofs.OldRintcAffinity.is_sound.Goals as goal
 
-pub returns-then-not-is_fixed : goal.returns-then-not-is_fixed
-returns-then-not-is_fixed c = rw (old-rintc-sound, ← c.is_fixed.ensures, c.if-not-is_fixed.true)
+pub returns-else-is_fixed : goal.returns-else-is_fixed
+returns-else-is_fixed c = rw (old-rintc-sound, ← c.is_fixed.ensures, c.if-is_fixed.false)
 
-pub returns : goal.returns
-returns c =
-    rw (old-rintc-sound, ← c.is_fixed.ensures, c.if-not-is_fixed.false, c.get_u32.ensures)
+pub returns-then-is_fixed : goal.returns-then-is_fixed
+returns-then-is_fixed c =
+    rw (old-rintc-sound, ← c.is_fixed.ensures, c.if-is_fixed.true, c.get.ensures)

@@ -5,4 +5,4 @@ use Rattle.srat.proofs.RintcAffinity.from_body.Goals as goal
 
 pub returns : goal.returns
 unfolding body
-returns c = rw (body_at Rintc, c.get_u32.ensures, c.get_u32-2.ensures, c.get_u8.ensures, c.get_u32-3.ensures)
+returns c = rw (body_at Rintc, c.get.ensures, c.get-2.ensures, c.get-3.ensures, c.get-4.ensures)

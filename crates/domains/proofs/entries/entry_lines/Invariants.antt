@@ -1,9 +1,0 @@
--- `domains::entries::entry_lines` is safe and ends: one initiator fewer is left with each turn.
-use Prim.Native.Nat.{◌-◌}
-use Rattle.domains.proofs.entries.entry_lines.Given as goal
-
-abbrev pub invariant-loop-i : goal.invariant-loop-i
-invariant-loop-i g l = Unit
-
-abbrev pub decreases-loop-i : goal.decreases-loop-i
-decreases-loop-i g l = l.to - l.i

@@ -1,7 +1,0 @@
--- `prints::large_recipe` has the length of its type: by the law on repeats.
-use mathlib.Core.Path.{refl}
-use Rattle.prints.proofs.Zeros.{zeros}
-use Rattle.prints.proofs.large_recipe.Goals as goal
-
-pub returns : goal.returns
-returns c = record { value = zeros 134217728; value_2 = refl }

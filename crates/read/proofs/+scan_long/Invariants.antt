@@ -1,5 +1,0 @@
--- The measure of `scan_long`: again.
-use Rattle.read.proofs.+scan_long.Given as goal
-
-abbrev pub decreases-scan_long : goal.decreases-scan_long
-decreases-scan_long l = l.again

@@ -1,0 +1,1 @@
+-- `refers_or_none` meets its contract: 0 is none, and any other reference is good if it refers to the type.

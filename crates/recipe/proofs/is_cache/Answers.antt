@@ -1,5 +1,0 @@
--- `is_cache` meets its contract: the type of the node with that ordinal.
-use Rattle.recipe.proofs.is_cache.Goals as goal
-
-pub returns : goal.returns
-returns c = rw c.type_at.ensures

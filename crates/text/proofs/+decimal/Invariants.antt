@@ -1,5 +1,0 @@
--- The measure of `text::decimal`: the number.
-use Rattle.text.proofs.+decimal.Given as goal
-
-abbrev pub decreases-decimal : goal.decreases-decimal
-decreases-decimal l = l.v

@@ -1,9 +1,0 @@
--- `words::digits` is safe and ends: one byte fewer is left with each turn.
-use Prim.Native.Nat.{◌-◌}
-use Rattle.words.proofs.digits.Given as goal
-
-abbrev pub invariant-loop-i : goal.invariant-loop-i
-invariant-loop-i g l = Unit
-
-abbrev pub decreases-loop-i : goal.decreases-loop-i
-decreases-loop-i g l = l.n - l.i

@@ -1,9 +1,0 @@
--- `words::printable` is safe and ends: one byte fewer is left with each turn.
-use Prim.Native.Nat.{◌-◌}
-use Rattle.words.proofs.printable.Given as goal
-
-abbrev pub invariant-loop-i : goal.invariant-loop-i
-invariant-loop-i l = Unit
-
-abbrev pub decreases-loop-i : goal.decreases-loop-i
-decreases-loop-i l = l.n - l.i

@@ -1,5 +1,0 @@
--- `State::growing` meets its contract: the newest record's item is counted.
-use Rattle.writes.proofs.State.growing.Goals as goal
-
-pub returns : goal.returns
-returns c = rw c.counting.ensures
