@@ -179,6 +179,7 @@ fn with_more(out: &[u8], end: usize, more: usize, sum: Checksum) -> Checksum
 }
 
 // The sum without the bytes that a record of a kind changes. Each kind says how many: the compiler makes no loop of so few.
+#[inline(always)]
 fn before(kind: Kind, out: &[u8], change: Change, sum: Checksum) -> Checksum
     requires { Changes (meant_kind kind) change × (change.from + change.len ≤ length out.now) }
     ensures { result.value ≡ (sum.value + check_of (sum_of (part out.now change.from change.len))) % 256 }
@@ -395,23 +396,21 @@ fn put_records<const N: usize>(
     s
 }
 
-// The same with the marks of a table that is longer than others; most: how many records it may have. LLVM does not inline a function that calls itself, so that no other table
-// pays for this room; again is 0, since no slice has usize::MAX bytes, but LLVM does not know it.
-fn put_long(
+// The same with N marks of its own; most: how many records the table may have. No other table pays for their room: not inlined, it has
+// a frame of its own.
+#[inline(never)]
+fn put_marked<const N: usize>(
     recipe: &[u8],
     table: Table,
     out: &mut [u8],
     most: usize,
     first: State,
-    again: usize,
 ) -> State
-    requires { Ready recipe.now (meant table) first out.old [] }
+    requires fits { N ≤ 65536 }
+    requires ready { Ready recipe.now (meant table) first out.old [] }
     ensures { (length recipe.now ≤ result.at) × Ends recipe.now (meant table) first out.old [] result out.new }
 {
-    if 0 < again {
-        return put_long(recipe, table, out, most, first, again - 1);
-    }
-    let mut marks = Marks::<{ marks::MOST }>::none(most);
+    let mut marks = Marks::<N>::none(most);
     put_records(recipe, table, out, &mut marks, first)
 }
 
@@ -421,19 +420,16 @@ fn put_all(recipe: &[u8], outline: Outline, out: &mut [u8], first: State) -> Sta
     ensures { (length recipe.now ≤ result.at) × Ends recipe.now (meant outline.table) first out.old [] result out.new }
 {
     let Outline { table, len } = outline;
-    let Table::Pptt = table else {
-        let mut one = Marks::<1>::none(0);
-        return put_records(recipe, table, out, &mut one, first);
-    };
     let most = len / ProcessorNode::LEN;
-    if most < marks::FEW {
-        let mut few = Marks::<{ marks::FEW }>::none(most);
-        put_records(recipe, table, out, &mut few, first)
-    } else if len <= marks::LONG {
-        let mut many = Marks::<{ marks::MANY }>::none(most);
-        put_records(recipe, table, out, &mut many, first)
-    } else {
-        put_long(recipe, table, out, most, first, recipe.len() / usize::MAX)
+    match table {
+        Table::Pptt if most < marks::FEW => {
+            put_marked::<{ marks::FEW }>(recipe, table, out, most, first)
+        }
+        Table::Pptt if len <= marks::LONG => {
+            put_marked::<{ marks::MANY }>(recipe, table, out, most, first)
+        }
+        Table::Pptt => put_marked::<{ marks::MOST }>(recipe, table, out, most, first),
+        _ => put_marked::<1>(recipe, table, out, 0, first),
     }
 }
 

@@ -23,8 +23,8 @@ ghost use Rattle.cedt.specs.Cedt.{bridge_of, bridge_shown, bridge_node, window_o
 
 #[derive(Clone, Copy)]
 pub enum CxlVersion {
-    Cxl1_1,
-    Cxl2,
+    Cxl1_1 = 0,
+    Cxl2 = 1,
 }
 
 impl From<CxlVersion> for u32 {
@@ -224,8 +224,8 @@ impl CxlHostBridge {
 
 #[derive(Clone, Copy)]
 pub enum InterleaveArithmetic {
-    Modulo,
-    ModuloXor,
+    Modulo = 0,
+    ModuloXor = 1,
 }
 
 impl From<InterleaveArithmetic> for u8 {
@@ -238,13 +238,13 @@ impl From<InterleaveArithmetic> for u8 {
 
 #[derive(Clone, Copy)]
 pub enum InterleaveGranularity {
-    Granularity256b,
-    Granularity512b,
-    Granularity1kb,
-    Granularity2kb,
-    Granularity4kb,
-    Granularity8kb,
-    Granularity16kb,
+    Granularity256b = 0,
+    Granularity512b = 1,
+    Granularity1kb = 2,
+    Granularity2kb = 3,
+    Granularity4kb = 4,
+    Granularity8kb = 5,
+    Granularity16kb = 6,
 }
 
 impl From<InterleaveGranularity> for u8 {
@@ -262,12 +262,12 @@ impl InterleaveGranularity {
 
 #[derive(Clone, Copy)]
 pub enum InterleaveWays {
-    Ways1,
-    Ways2,
-    Ways4,
-    Ways8,
+    Ways1 = 0,
+    Ways2 = 1,
+    Ways4 = 2,
+    Ways8 = 3,
     // the rest are for CXL.mem alone, version 2 and above
-    Ways16,
+    Ways16 = 4,
     Ways3 = 8,
     Ways6 = 9,
     Ways12 = 10,

@@ -62,15 +62,32 @@ impl Grid<'_> {
         (v != SystemLocality::UNREACHABLE_DOMAIN).then_some(v as u32)
     }
 
-    // What stands in the column of a target: the target itself above the entries, then each initiator's entry.
-    fn value(&self, row: Option<u32>, t: u32) -> Option<u32> {
-        match row {
-            None => Some(self.target(t)),
-            Some(i) => self.entry(i, t),
+    // Lays some of the targets.
+    fn lay_targets(&self, rt: &impl Print, line: &mut Line, columns: Range<u32>) -> io::Result<()> {
+        for t in columns {
+            line.number(rt, self.entry, self.target(t) as u64)?;
         }
+        Ok(())
     }
 
-    // Lays some of the columns of a row; an entry that is not set is a dash.
+    // Lays some of an initiator's entries; one that is not set is a dash.
+    fn lay_entries(
+        &self,
+        rt: &impl Print,
+        line: &mut Line,
+        i: u32,
+        columns: Range<u32>,
+    ) -> io::Result<()> {
+        for t in columns {
+            match self.entry(i, t) {
+                Some(v) => line.number(rt, self.entry, v as u64)?,
+                None => line.right(rt, self.entry, b"-")?,
+            }
+        }
+        Ok(())
+    }
+
+    // Lays what stands in some columns of a row: the targets themselves above the entries, then each initiator's entries.
     fn lay(
         &self,
         rt: &impl Print,
@@ -78,13 +95,10 @@ impl Grid<'_> {
         row: Option<u32>,
         columns: Range<u32>,
     ) -> io::Result<()> {
-        for t in columns {
-            match self.value(row, t) {
-                Some(v) => line.number(rt, self.entry, v as u64)?,
-                None => line.right(rt, self.entry, b"-")?,
-            }
+        match row {
+            None => self.lay_targets(rt, line, columns),
+            Some(i) => self.lay_entries(rt, line, i, columns),
         }
-        Ok(())
     }
 
     // A row: the targets, above their columns, or an initiator and its entries.

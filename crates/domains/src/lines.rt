@@ -36,6 +36,7 @@ impl Line {
     }
 
     // Lays a word so that it ends a column; nothing where the column is narrower than the word, or wider than the room.
+    #[inline(always)]
     pub fn right(&mut self, rt: &impl Print, width: usize, word: &[u8]) -> io::Result<()> {
         let n = word.len();
         if width < n || ROOM < width {
@@ -50,6 +51,7 @@ impl Line {
     }
 
     // The same for a number.
+    #[inline(always)]
     pub fn number(&mut self, rt: &impl Print, width: usize, v: u64) -> io::Result<()> {
         let mut digits = [0u8; 20];
         let mut text = Text::new(&mut digits);
@@ -60,7 +62,8 @@ impl Line {
 
     // Writes what is laid, and ends the line.
     pub fn end(mut self, rt: &impl Print) -> io::Result<()> {
-        rt.write_all(&self.bytes[..self.at])?;
-        println!(rt)
+        self.clear(rt, 1)?;
+        self.bytes[self.at] = b'\n';
+        rt.write_all(&self.bytes[..self.at + 1])
     }
 }

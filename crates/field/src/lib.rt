@@ -34,15 +34,13 @@ pub trait Number: Copy {
     // The number that it is.
     ghost number: { Self → ℕ };
 
-    // Writes it over the whole of a slice of its width.
+    // Writes it at the front of a slice, as far as there is room.
     fn write(self, out: &mut [u8])
-        requires { length out.old ≡ WIDTH }
-        ensures { out.new ≡ le WIDTH (number self) };
+        ensures { out.new ≡ over out.old 0 (le WIDTH (number self)) };
 
-    // Reads it from such a slice.
+    // Reads it from the front of a slice; what is not there counts as 0.
     fn read(s: &[u8]) -> Self
-        requires { length s.now ≡ WIDTH }
-        ensures { number result ≡ value s.now };
+        ensures { number result ≡ value (part s.now 0 WIDTH) };
 
     ghost narrow: { WIDTH ≤ 8 };
 }
@@ -55,11 +53,11 @@ impl Number for u8 {
     ghost number = { λ n. n };
 
     fn write(self, out: &mut [u8]) {
-        out.copy_from_slice(&u8::to_le_bytes(self));
+        copy(out, 0, &u8::to_le_bytes(self));
     }
 
     fn read(s: &[u8]) -> u8 {
-        s[0]
+        u8::from_le_bytes(padded(s, 0))
     }
 
     ghost narrow = { Prim.search rules };
@@ -73,11 +71,11 @@ impl Number for u16 {
     ghost number = { λ n. n };
 
     fn write(self, out: &mut [u8]) {
-        out.copy_from_slice(&u16::to_le_bytes(self));
+        copy(out, 0, &u16::to_le_bytes(self));
     }
 
     fn read(s: &[u8]) -> u16 {
-        u16::from_le_bytes([s[0], s[1]])
+        u16::from_le_bytes(padded(s, 0))
     }
 
     ghost narrow = { Prim.search rules };
@@ -91,11 +89,11 @@ impl Number for u32 {
     ghost number = { λ n. n };
 
     fn write(self, out: &mut [u8]) {
-        out.copy_from_slice(&u32::to_le_bytes(self));
+        copy(out, 0, &u32::to_le_bytes(self));
     }
 
     fn read(s: &[u8]) -> u32 {
-        u32::from_le_bytes([s[0], s[1], s[2], s[3]])
+        u32::from_le_bytes(padded(s, 0))
     }
 
     ghost narrow = { Prim.search rules };
@@ -109,11 +107,11 @@ impl Number for u64 {
     ghost number = { λ n. n };
 
     fn write(self, out: &mut [u8]) {
-        out.copy_from_slice(&u64::to_le_bytes(self));
+        copy(out, 0, &u64::to_le_bytes(self));
     }
 
     fn read(s: &[u8]) -> u64 {
-        u64::from_le_bytes([s[0], s[1], s[2], s[3], s[4], s[5], s[6], s[7]])
+        u64::from_le_bytes(padded(s, 0))
     }
 
     ghost narrow = { Prim.search rules };
@@ -127,20 +125,18 @@ pub fn put<T: Number>(out: &mut [u8], at: usize, v: T)
         v.write(&mut out[at..at + T::WIDTH]);
         return;
     }
-    let mut bytes = [0u8; 8];
-    v.write(&mut bytes[..T::WIDTH]);
-    copy(out, at, &bytes[..T::WIDTH]);
+    let at = at.min(out.len());
+    v.write(&mut out[at..]);
 }
 
 // The number at any place.
 pub fn get<T: Number>(s: &[u8], at: usize) -> T
     ensures { T.number result ≡ value (part s.now at T.WIDTH) }
 {
-    let s = rest(s, at);
-    if T::WIDTH <= s.len() {
-        return T::read(&s[..T::WIDTH]);
+    if at <= s.len() && T::WIDTH <= s.len() - at {
+        return T::read(&s[at..at + T::WIDTH]);
     }
-    T::read(&padded::<8>(s, 0)[..T::WIDTH])
+    T::read(&padded::<8>(s, at)[..T::WIDTH])
 }
 
 // Writes the low w bytes of v; how many of them stand before the end.
@@ -148,6 +144,10 @@ fn put_low(out: &mut [u8], at: usize, w: usize, v: u64) -> usize
     ensures out_after { out.new ≡ over out.old at (le w v) }
     ensures value { result ≡ min w (length out.old - at) }
 {
+    // where nothing has room, as in a walk that measures, the rest is not worked out
+    if out.len() <= at {
+        return 0;
+    }
     let n = fitting(out.len(), at, w);
     let mut rest = v;
     for i in 0..n {

@@ -1,6 +1,7 @@
 -- The bytes of a header are the first 36 of a table: their number is counted, and `header` of the format is taken apart.
-use Rattle.std.proofs.Common.{◌≡◌, ℕ, ◌≤◌, List, [], ◌∷◌, ◌++◌, length, refl, append_assoc, arith, length-append}
-use Rattle.format.specs.Bytes.{le}
+use Rattle.std.proofs.Common.{◌≡◌, ℕ, zero, suc, ◌≤◌, List, take, replicate, [], ◌∷◌, ◌++◌, length, refl, append_assoc, arith, length-append}
+use lib.Seq.{take-nil}
+use Rattle.format.specs.Bytes.{le, over}
 use Rattle.format.specs.Layout.{lay}
 use Rattle.format.specs.Table.{pptt, srat, hmat, cedt, code, front, tail, told, head_of}
 use Rattle.format.specs.Table as format
@@ -42,3 +43,10 @@ code-byte pptt = refl
 code-byte srat = refl
 code-byte hmat = refl
 code-byte cedt = refl
+
+-- of a list laid over zeros, as much as there is of it
+pub taken-padded : (n : ℕ) (xs : List ℕ) → take (length xs) (over (replicate n 0) 0 xs) ≡ take n xs
+unfolding over
+taken-padded zero xs = take-nil (length xs)
+taken-padded (suc n) [] = refl
+taken-padded (suc n) (x ∷ xs) = rw (taken-padded n xs)

@@ -252,8 +252,10 @@ impl TableHeader {
     {
         field::put(out, 0, Self::KIND);
         field::put(out, 1, table.code());
-        let n = Self::LEN - Self::IDENTITY_AT;
-        field::copy(out, 2, field::part(bytes, Self::IDENTITY_AT, n));
+        // By way of an array: what is copied from one lent slice into another may be a call of memmove, which a program in C would have to have.
+        let identity = field::padded::<26>(bytes, Self::IDENTITY_AT);
+        let there = bytes.len().saturating_sub(Self::IDENTITY_AT);
+        field::copy(out, 2, field::part(&identity, 0, there));
     }
 
     pub fn len() -> usize

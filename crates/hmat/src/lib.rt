@@ -203,13 +203,13 @@ impl Width {
 #[derive(Clone, Copy)]
 pub enum DataType {
     // if read and write latencies are identical
-    AccessLatency,
-    ReadLatency,
-    WriteLatency,
+    AccessLatency = 0,
+    ReadLatency = 1,
+    WriteLatency = 2,
     // if read and write bandwidths are identical
-    AccessBandwidth,
-    ReadBandwidth,
-    WriteBandwidth,
+    AccessBandwidth = 3,
+    ReadBandwidth = 4,
+    WriteBandwidth = 5,
 }
 
 impl From<DataType> for u8 {
@@ -222,18 +222,18 @@ impl From<DataType> for u8 {
 
 #[derive(Clone, Copy)]
 pub enum MinTransferSize {
-    SizeByteAligned,
-    Size64b,
-    Size128b,
-    Size256b,
-    Size512b,
-    Size1k,
-    Size2k,
-    Size4k,
-    Size8k,
-    Size16k,
-    Size32k,
-    Size64k,
+    SizeByteAligned = 0,
+    Size64b = 1,
+    Size128b = 2,
+    Size256b = 3,
+    Size512b = 4,
+    Size1k = 5,
+    Size2k = 6,
+    Size4k = 7,
+    Size8k = 8,
+    Size16k = 9,
+    Size32k = 10,
+    Size64k = 11,
 }
 
 impl From<MinTransferSize> for u8 {
@@ -246,10 +246,10 @@ impl From<MinTransferSize> for u8 {
 
 #[derive(Clone, Copy)]
 pub enum LocalityType {
-    Memory,
-    FirstLevelCache,
-    SecondLevelCache,
-    ThirdLevelCache,
+    Memory = 0,
+    FirstLevelCache = 1,
+    SecondLevelCache = 2,
+    ThirdLevelCache = 3,
 }
 
 impl From<LocalityType> for u8 {
@@ -980,10 +980,10 @@ impl Cell {
 
 #[derive(Clone, Copy)]
 pub enum CacheLevel {
-    None,
-    One,
-    Two,
-    Three,
+    None = 0,
+    One = 1,
+    Two = 2,
+    Three = 3,
 }
 
 impl From<CacheLevel> for u32 {
@@ -996,9 +996,9 @@ impl From<CacheLevel> for u32 {
 
 #[derive(Clone, Copy)]
 pub enum Associativity {
-    None,
-    DirectMapped,
-    Complex,
+    None = 0,
+    DirectMapped = 1,
+    Complex = 2,
 }
 
 impl From<Associativity> for u32 {
@@ -1011,9 +1011,9 @@ impl From<Associativity> for u32 {
 
 #[derive(Clone, Copy)]
 pub enum WritePolicy {
-    None,
-    Writeback,
-    Writethrough,
+    None = 0,
+    Writeback = 1,
+    Writethrough = 2,
 }
 
 impl From<WritePolicy> for u32 {

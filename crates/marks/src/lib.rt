@@ -70,6 +70,47 @@ impl Mark {
             place,
         })
     }
+
+    // Keeps the mark under a key, unless one is kept there: the first of those that share it serves them all.
+    #[tactic(auto, unfolding(crate::specs::Marks::noted))]
+    pub fn note(self, marks: &mut [u64], shift: u32, key: usize)
+        ensures { marks.new ≡ noted self shift key marks.old }
+    {
+        let i = key >> (shift % 64);
+        if i < marks.len() && marks[i] == 0 {
+            marks[i] = self.kept();
+        }
+    }
+
+    // The mark under a key.
+    #[tactic(auto, unfolding(crate::specs::Marks::under))]
+    fn under(marks: &[u64], shift: u32, key: usize) -> Option<Self>
+        ensures { result ≡ there (under marks.now shift key) }
+    {
+        Self::of(*marks.get(key >> (shift % 64))?)
+    }
+
+    // From where to walk to node i, counted from 0: from the mark under its number, unless there is none or it is past it; then from here.
+    #[tactic(auto, using(crate::proofs::Laws::from_there), unfolding(crate::specs::Marks::toward_node))]
+    pub fn toward_node(self, marks: &[u64], shift: u32, i: u32) -> Self
+        ensures { result ≡ toward_node self shift i marks.now }
+    {
+        match Self::under(marks, shift, i as usize) {
+            Some(mark) if mark.nodes <= i => mark,
+            _ => self,
+        }
+    }
+
+    // The same to a place, from the mark under it.
+    #[tactic(auto, using(crate::proofs::Laws::from_there), unfolding(crate::specs::Marks::toward_place))]
+    pub fn toward_place(self, marks: &[u64], shift: u32, v: usize) -> Self
+        ensures { result ≡ toward_place self shift v marks.now }
+    {
+        match Self::under(marks, shift, v) {
+            Some(mark) if mark.place as usize <= v => mark,
+            _ => self,
+        }
+    }
 }
 
 // The marks of a pass, each in one number, and by how many bits their keys are shifted. An Option<Mark> would take half as much stack again.
@@ -91,45 +132,25 @@ impl<const N: usize> Marks<N> {
         }
     }
 
-    // Keeps a mark under a key, unless one is kept there: the first of those that share it serves them all.
-    #[tactic(auto, unfolding(crate::specs::Marks::noted))]
+    // Keeps a mark under a key (Mark::note).
     pub fn note(&mut self, mark: Mark, key: usize)
         ensures slots { self.new.slots ≡ noted mark self.old.shift key self.old.slots }
         ensures shift { self.new.shift ≡ self.old.shift }
     {
-        let i = key >> (self.shift % 64);
-        if i < N && self.slots[i] == 0 {
-            self.slots[i] = mark.kept();
-        }
+        mark.note(&mut self.slots, self.shift, key);
     }
 
-    // The mark under a key.
-    #[tactic(auto, unfolding(crate::specs::Marks::under))]
-    fn under(&self, key: usize) -> Option<Mark>
-        ensures { result ≡ there (under self.now.slots self.now.shift key) }
-    {
-        Mark::of(*self.slots.get(key >> (self.shift % 64))?)
-    }
-
-    // From where to walk to node i, counted from 0: from the mark under its number, unless there is none or it is past it; then from here.
-    #[tactic(auto, using(crate::proofs::Laws::from_there), unfolding(crate::specs::Marks::toward_node))]
+    // From where to walk to node i (Mark::toward_node).
     pub fn toward_node(&self, from: Mark, i: u32) -> Mark
         ensures { result ≡ toward_node from self.now.shift i self.now.slots }
     {
-        match self.under(i as usize) {
-            Some(mark) if mark.nodes <= i => mark,
-            _ => from,
-        }
+        from.toward_node(&self.slots, self.shift, i)
     }
 
-    // The same to a place, from the mark under it.
-    #[tactic(auto, using(crate::proofs::Laws::from_there), unfolding(crate::specs::Marks::toward_place))]
+    // From where to walk to a place (Mark::toward_place).
     pub fn toward_place(&self, from: Mark, v: usize) -> Mark
         ensures { result ≡ toward_place from self.now.shift v self.now.slots }
     {
-        match self.under(v) {
-            Some(mark) if mark.place as usize <= v => mark,
-            _ => from,
-        }
+        from.toward_place(&self.slots, self.shift, v)
     }
 }

@@ -39,6 +39,8 @@ use Rattle.pptt.proofs.ProcessorNode.parent_of.Reads as ProcessorNode-parent-of
 use Rattle.pptt.proofs.ProcessorNode.resource.Reads as ProcessorNode-resource
 use Rattle.pptt.proofs.Resource.from_body.Reads as Resource-from-body
 use Rattle.pptt.proofs.Resource.put_body.Reads as Resource-put-body
+use Rattle.pptt.proofs.CacheHandleDefault.default.Reads as CacheHandle-default
+use Rattle.pptt.proofs.CacheNodeDefault.default.Reads as CacheNode-default
 use Rattle.pptt.proofs.CacheNodeBuilderDefault.default.Reads as CacheNodeBuilder-default
 use Rattle.pptt.proofs.CacheNodeBuilder.next_level.Reads as CacheNodeBuilder-next-level
 use Rattle.pptt.proofs.CacheNodeBuilder.size.Reads as CacheNodeBuilder-size
@@ -127,6 +129,8 @@ pub record Unique : Type 0 where
   ProcessorNode-resource : Fixes ProcessorNode-resource.Learnt (λ k x p. x)
   Resource-from-body : Fixes Resource-from-body.Learnt (λ k x p. x)
   Resource-put-body : Fixes {S = ℕ × List ℕ} Resource-put-body.Learnt (λ k x p. (x, p.1.0.now))
+  CacheHandle-default : Fixes CacheHandle-default.Learnt (λ k x p. x)
+  CacheNode-default : Fixes CacheNode-default.Learnt (λ k x p. x)
   CacheNodeBuilder-default : Fixes CacheNodeBuilder-default.Learnt (λ k x p. x)
   CacheNodeBuilder-next-level : Fixes CacheNodeBuilder-next-level.Learnt (λ k x p. x)
   CacheNodeBuilder-size : Fixes CacheNodeBuilder-size.Learnt (λ k x p. x)
@@ -179,6 +183,8 @@ unique =
       ProcessorNode-resource = λ k a x y p q. sole;
       Resource-from-body = λ k a x y p q. one-resource x y _;
       Resource-put-body = λ k a x y p q l m. sole-pair (sole l.1 m.1) (sole l.0 m.0);
+      CacheHandle-default = λ k a x y p q l m. one-level x y 0 (cc) (cc);
+      CacheNode-default = λ k a x y p q l m. one-made x y (replicate 8 0) (cc) (cc);
       CacheNodeBuilder-default = λ k a x y p q l m. one-builder x y (replicate 8 0) (cc) (cc);
       CacheNodeBuilder-next-level = λ k a x y p q. sole;
       CacheNodeBuilder-size = λ k a x y p q. sole;

@@ -698,7 +698,10 @@ impl CacheNode {
     fn is_kept(flag: u32, v: u32) -> bool
         ensures { result ≡ pick (eqb flag 1) true (eqb v 0) }
     {
-        flag == 1 || v == 0
+        if flag == 1 {
+            return true;
+        }
+        v == 0
     }
 
     // Allocation and type up to 2, policy, the rest 0; each with its flag.
@@ -727,7 +730,9 @@ impl CacheNode {
         Self::is_kept(flags / CacheNodeBuilder::POLICY % 2, policy)
     }
 
-    // The place of the first field outside its range, counted from the kind byte.
+    // The place of the first field outside its range, counted from the kind byte. A part of the pass that judges a recipe, its eight refusals
+    // would have every record's state go through memory there: it stays a call.
+    #[inline(never)]
     pub fn bad_field(self) -> Option<usize>
         ensures { result ≡ place_or_none (bad_field (cache_node self)) }
     {

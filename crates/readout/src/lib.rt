@@ -19,7 +19,8 @@ ghost use Rattle.laws.specs.Offsets.{fields_at};
 ghost use Rattle.header.specs.Header.{meant};
 ghost use Rattle.hmat.specs.Widths.{meant_width};
 ghost use Rattle.marks.specs.Marks.{Every};
-ghost use Rattle.frames.specs.Frames.{Passed};
+ghost use Rattle.field.specs.Place.{place_or_none};
+ghost use Rattle.frames.specs.Frames.{Passed, number_from};
 ghost use Rattle.rows.specs.Rows.{meant_row};
 ghost use Rattle.readout.specs.Bounds.{setting_most, settings_most, record_most, far};
 ghost use Rattle.readout.specs.Laid.{Laid, Calls, up_to};
@@ -37,6 +38,16 @@ use rows::Row;
 use srat::{GenericInitiator, MemoryAffinity, RintcAffinity};
 
 // ---- references
+
+// The number of the record at v. Only a PPTT has references: named as a constant, its framing is known where the walk is compiled.
+fn number(t: Table, c: &[u8], from: Mark, v: usize) -> Option<usize>
+    ensures { result ≡ place_or_none (number_from (meant t) c.now v from) }
+{
+    match t {
+        Table::Pptt => frames::number(Table::Pptt, c, from, v),
+        _ => frames::number(t, c, from, v),
+    }
+}
 
 // A walk over a table's own bytes c that has come to the record at own. The marks, under their places, are of records that it has come to.
 // Only a PPTT has references.
@@ -64,7 +75,7 @@ impl<const N: usize> Walk<'_, N> {
             place: self.t.front() as u32,
         };
         let near = self.marks.toward_place(first, v);
-        let i = frames::number(self.t, self.c, near, v).unwrap_or(0);
+        let i = number(self.t, self.c, near, v).unwrap_or(0);
         (i % 4294967296) as u32
     }
 }
@@ -545,39 +556,31 @@ fn put_records<const N: usize>(
     }
 }
 
-// The same with the most marks. LLVM does not inline a function that calls itself and has an array of its own, so that no other table pays for their room;
-// again is 0, since no slice has usize::MAX bytes, but LLVM does not know it.
-fn put_long(t: Table, revision: u8, c: &[u8], out: &mut [u8], again: usize)
-    requires { length c.now ≤ limit }
+// The same with N marks of its own. No other table pays for their room: not inlined, it has a frame of its own.
+#[inline(never)]
+fn put_marked<const N: usize>(t: Table, revision: u8, c: &[u8], out: &mut [u8])
+    requires few { N ≤ 65536 }
+    requires short { length c.now ≤ limit }
     ensures { out.new ≡ over out.old 28 (calls_at (meant t) revision c.now) }
 {
-    if 0 < again {
-        put_long(t, revision, c, out, again - 1);
-        return;
-    }
-    let mut most = Marks::<{ marks::MOST }>::none(c.len());
-    put_records(t, revision, c, &mut most, out);
+    let mut marks = Marks::<N>::none(c.len());
+    put_records(t, revision, c, &mut marks, out);
 }
 
-// The same with marks of its own: few where a PPTT is too short for as many processors, the most where it is long; and one, which nothing asks for, where there are no references.
+// The same with as many marks as a PPTT of so many bytes asks for; and with one, which nothing asks for, where there are no references.
 fn put_calls(t: Table, revision: u8, c: &[u8], out: &mut [u8])
     requires { length c.now ≤ limit }
     ensures { out.new ≡ over out.old 28 (calls_at (meant t) revision c.now) }
 {
     match t {
         Table::Pptt if c.len() < ProcessorNode::LEN * marks::FEW => {
-            let mut few = Marks::<{ marks::FEW }>::none(c.len());
-            put_records(t, revision, c, &mut few, out);
+            put_marked::<{ marks::FEW }>(t, revision, c, out)
         }
         Table::Pptt if c.len() <= marks::LONG => {
-            let mut many = Marks::<{ marks::MANY }>::none(c.len());
-            put_records(t, revision, c, &mut many, out);
+            put_marked::<{ marks::MANY }>(t, revision, c, out)
         }
-        Table::Pptt => put_long(t, revision, c, out, out.len() / usize::MAX),
-        _ => {
-            let mut one = Marks::<1>::none(0);
-            put_records(t, revision, c, &mut one, out);
-        }
+        Table::Pptt => put_marked::<{ marks::MOST }>(t, revision, c, out),
+        _ => put_marked::<1>(t, revision, c, out),
     }
 }
 

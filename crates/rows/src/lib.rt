@@ -82,11 +82,10 @@ fn pptt_row(body: &[u8]) -> Option<Row>
 fn rintc_row(body: &[u8]) -> Option<Row>
     ensures { row_meant result ≡ pick (column old_rintcs body.now) (some old_rintcs) (pick (column rintcs body.now) (some rintcs) none) }
 {
-    match body.len() {
-        OldRintcAffinity::LEN => Some(Row::OldRintcs),
-        RintcAffinity::LEN => Some(Row::Rintcs),
-        _ => None,
+    if body.len() == OldRintcAffinity::LEN {
+        return Some(Row::OldRintcs);
     }
+    (body.len() == RintcAffinity::LEN).then_some(Row::Rintcs)
 }
 
 fn srat_row(body: &[u8]) -> Option<Row>
@@ -160,6 +159,7 @@ pub fn known(row: Option<Row>, mask: u32) -> Option<Row>
 
 // Whether zeros, fixed values, ranges, bit rules and inner counts are as the row has them; of an unknown record nothing is asked.
 #[tactic(auto, using(crate::proofs::Laws::processor_fixed, crate::proofs::Laws::domain_fixed), unfolding(format::specs::Row::form_in))]
+#[inline(always)]
 pub fn sound(row: Option<Row>, body: &[u8]) -> bool
     ensures { result ≡ sound_as (row_meant row) body.now }
 {

@@ -191,6 +191,7 @@ fn filling_window(s: State) -> Change
 
 // What the record of a kind changes.
 #[tactic(auto, unfolding(crate::specs::Writes::change_of))]
+#[inline(always)]
 pub fn change_of(kind: Kind, bytes: &[u8], s: State) -> Change
     ensures { result ≡ change_of (meant_kind kind) s (fields (body (meant_kind kind)) bytes.now) }
 {
@@ -248,6 +249,7 @@ fn first(bytes: &[u8], n: usize) -> &[u8]
 
 // Writes the record of a kind whose body the bytes begin with, zeros for a body that is cut; found: the record that it names; from: the place
 // of the bytes that it changes.
+#[inline(always)]
 pub fn put(kind: Kind, bytes: &[u8], out: &mut [u8], s: State, found: Found, from: usize)
     ensures { out.new ≡ wrote (meant_kind kind) s found from (fields_in (meant_kind kind) bytes.now) out.old }
 {

@@ -1,7 +1,7 @@
 -- The answers that the search does not find.
 use Rattle.std.proofs.Common.{◌+◌, sym, ◌∙◌, add-zero, arith, length-set, rules}
 use native.Mathlib.Nat.{sub-zero}
-use Rattle.laws.proofs.Bytes.{length-le, le-turn, over-turn, over_none}
+use Rattle.laws.proofs.Bytes.{length-le, le-turn, over-turn, over-past, over_none}
 use Rattle.field.proofs.put_low.Goals as goal
 
 pub loop-i-init : goal.loop-i-init
@@ -17,3 +17,6 @@ pub returns : goal.returns
 returns c =
     let l = c.loop-i in
     let s = c.args in record { out_after = sym (over_none l.out (s.at + l.i) _ (rw length-le (omega arith))) ∙ l.invariant.2; value = search rules }
+
+pub returns-then-out-at-clause-out_after : goal.returns-then-out-at-clause-out_after
+returns-then-out-at-clause-out_after c = sym (over-past c.args.out.now c.args.at _ c.if-out-at.true)

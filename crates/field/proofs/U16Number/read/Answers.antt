@@ -1,7 +1,7 @@
 -- `read` at u16 meets its contract.
 use Rattle.std.proofs.Common.{◌∙◌}
-use Rattle.field.proofs.Orders.{bytes-value}
+use Rattle.field.proofs.Orders.{padded-value}
 use Rattle.field.proofs.U16Number.read.Goals as goal
 
 pub returns : goal.returns
-returns c = c.from_le_bytes.ensures ∙ bytes-value c.args.s.now 1 c.requires
+returns c = rw c.padded.ensures at c.from_le_bytes.ensures ∙ padded-value c.args.s.now 0 1

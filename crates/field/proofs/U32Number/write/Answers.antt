@@ -1,7 +1,6 @@
 -- `write` at u32 meets its contract.
-use Rattle.std.proofs.Common.{◌∙◌}
 use Rattle.field.proofs.Orders.{bytes-le}
 use Rattle.field.proofs.U32Number.write.Goals as goal
 
 pub returns : goal.returns
-returns c = c.copy_from_slice.ensures.after ∙ (c.to_le_bytes.ensures ∙ bytes-le 4 c.args.self)
+returns c = rw (c.copy.ensures, c.to_le_bytes.ensures, bytes-le 4 c.args.self)

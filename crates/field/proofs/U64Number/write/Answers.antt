@@ -1,7 +1,6 @@
 -- `write` at u64 meets its contract.
-use Rattle.std.proofs.Common.{◌∙◌}
 use Rattle.field.proofs.Orders.{bytes-le}
 use Rattle.field.proofs.U64Number.write.Goals as goal
 
 pub returns : goal.returns
-returns c = c.copy_from_slice.ensures.after ∙ (c.to_le_bytes.ensures ∙ bytes-le 8 c.args.self)
+returns c = rw (c.copy.ensures, c.to_le_bytes.ensures, bytes-le 8 c.args.self)

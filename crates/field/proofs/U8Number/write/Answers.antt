@@ -1,9 +1,8 @@
 -- `write` at u8 meets its contract.
-use Rattle.std.proofs.Common.{◌∙◌}
 use native.Mathlib.Nat.{mod-eq_of_lt}
 use Rattle.format.specs.Bytes.{le}
 use Rattle.field.proofs.U8Number.write.Goals as goal
 
 pub returns : goal.returns
 unfolding le
-returns c = c.copy_from_slice.ensures.after ∙ (c.to_le_bytes.ensures ∙ rw (mod-eq_of_lt c.ranges.self.fits))
+returns c = rw (c.copy.ensures, c.to_le_bytes.ensures, mod-eq_of_lt c.ranges.self.fits)
